@@ -37,27 +37,27 @@ def build_oracle(arguments, directory):
     build = os.path.join(HERE, 'oracle', 'build.sh')
     try:
         environment = dict(os.environ, RUSTC=needs.first_rust_compiler())
-    except needs.Missing as why:
-        sys.exit(f'FAILED: {why}')
-    ran = subprocess.run(['sh', build, arguments.upstream, directory], env=environment, capture_output=True, text=True)
-    if ran.returncode:
-        sys.exit(f'{build}: exit status {ran.returncode}:\n{ran.stderr[-2000:]}')
+    except needs.Missing as error:
+        sys.exit(f'FAILED: {error}')
+    process = subprocess.run(['sh', build, arguments.upstream, directory], env=environment, capture_output=True, text=True)
+    if process.returncode:
+        sys.exit(f'{build}: exit status {process.returncode}:\n{process.stderr[-2000:]}')
     return os.path.join(directory, 'oracle')
 
 
-def answers(program, lines, directory):
+def answers_of(program, lines, directory):
     """Returns a program's answers to the requests, in a directory with the files that they name."""
     for name, body in requests.files().items():
         with open(os.path.join(directory, name), 'wb') as file:
             file.write(body)
-    ran = subprocess.run([os.path.abspath(program)], cwd=directory, input='\n'.join(lines) + '\n',
-                         capture_output=True, text=True)
-    if ran.returncode:
-        sys.exit(f'{program}: exit status {ran.returncode}: {ran.stderr[-500:]}')
-    answered = ran.stdout.splitlines()
-    if len(answered) != len(lines):
-        sys.exit(f'{program} answered {len(answered)} of {len(lines)} requests')
-    return answered
+    process = subprocess.run([os.path.abspath(program)], cwd=directory, input='\n'.join(lines) + '\n',
+                             capture_output=True, text=True)
+    if process.returncode:
+        sys.exit(f'{program}: exit status {process.returncode}: {process.stderr[-500:]}')
+    answer_lines = process.stdout.splitlines()
+    if len(answer_lines) != len(lines):
+        sys.exit(f'{program} answered {len(answer_lines)} of {len(lines)} requests')
+    return answer_lines
 
 
 def summary(request, answer):
@@ -68,10 +68,10 @@ def summary(request, answer):
     words = request.split(' ')
     flags = tuple(words[4:]) if words[0].startswith('verify') else ()
     parts = tuple(sorted(re.findall(r',(pos|chunk|fail|second)=', request)))
-    marks = tuple(re.findall(r'(?:prehashed|encrypted|eq)=(.)', answer.head))
-    done = tuple((name, value if name in ('drawn', 'typed_left') else value not in ('x', '0'))
-                 for name, value in sorted(answer.tail.items()) if name not in ('reads', 'pos'))
-    return words[0], outcome, flags, parts, marks, done
+    answer_flags = tuple(re.findall(r'(?:prehashed|encrypted|eq)=(.)', answer.head))
+    effects = tuple((name, value if name in ('drawn', 'typed_left') else value not in ('x', '0'))
+                    for name, value in sorted(answer.tail.items()) if name not in ('reads', 'pos'))
+    return words[0], outcome, flags, parts, answer_flags, effects
 
 
 def run(arguments):
@@ -80,8 +80,8 @@ def run(arguments):
     # These requests change the table of accepted signatures, so their order matters, and repeated ones must not be removed.
     lines += requests.tables(random.Random(arguments.seed))
     with tempfile.TemporaryDirectory() as directory, tempfile.TemporaryDirectory() as files:
-        theirs = answers(build_oracle(arguments, directory), lines, files)
-        ours = answers(arguments.program, lines, files)
+        theirs = answers_of(build_oracle(arguments, directory), lines, files)
+        ours = answers_of(arguments.program, lines, files)
     entries, names, differences = collections.Counter(), collections.Counter(), collections.defaultdict(list)
     for request, line, answer in zip(lines, theirs, ours):
         names[request.split(' ')[0]] += 1
@@ -90,20 +90,20 @@ def run(arguments):
         if not expected.matches(known_differences.Answer(answer)):
             differences[summary(request, known_differences.Answer(answer))].append((request, expected.line(), answer))
     with open(DIFFERENCES, encoding='utf-8') as file:
-        listed = file.read()
-    unlisted = [entry for entry in entries if entry not in listed]
+        document = file.read()
+    unlisted = [entry for entry in entries if entry not in document]
     for entry in unlisted:
         print(f'NOT LISTED: {entry}')
     for name, count in sorted(names.items()):
         print(f'{count:7} {name}')
     for entry, count in entries.most_common():
         print(f'{count:7} intended differences: {entry}')
-    for of_one_kind in differences.values():
-        request, expected, answer = min(of_one_kind, key=lambda difference: len(difference[0]))
-        print(f'DIFFERENCE, {len(of_one_kind)} times:\n  {request}\n  expected {expected}\n  answered {answer}')
-    different = sum(map(len, differences.values())) + len(unlisted)
-    print(f'seed {arguments.seed}: {len(lines) - different} passed, {different} failed')
-    return different == 0
+    for same_kind in differences.values():
+        request, expected, answer = min(same_kind, key=lambda difference: len(difference[0]))
+        print(f'DIFFERENCE, {len(same_kind)} times:\n  {request}\n  expected {expected}\n  answered {answer}')
+    failed = sum(map(len, differences.values())) + len(unlisted)
+    print(f'seed {arguments.seed}: {len(lines) - failed} passed, {failed} failed')
+    return failed == 0
 
 
 def select_requests(lines, expected):
@@ -112,28 +112,29 @@ def select_requests(lines, expected):
     again)."""
     kinds = []
     for request, answer in zip(lines, expected):
-        name, outcome, flags, parts, marks, done = summary(request, answer)
-        kinds.append({(name, outcome, flags, marks, done), (name, outcome, parts)})
+        name, outcome, flags, parts, answer_flags, effects = summary(request, answer)
+        kinds.append({(name, outcome, flags, answer_flags, effects), (name, outcome, parts)})
     selected, covered = set(), set()
     # First the requests that cover two new kinds, then those that cover one.
     for min_new in (2, 1):
-        for at in sorted(range(len(lines)), key=lambda at: (len(lines[at]), at)):
-            if len(kinds[at] - covered) >= min_new:
-                selected.add(at)
-                covered |= kinds[at]
+        for index in sorted(range(len(lines)), key=lambda index: (len(lines[index]), index)):
+            if len(kinds[index] - covered) >= min_new:
+                selected.add(index)
+                covered |= kinds[index]
     return sorted(selected)
 
 
 def store(arguments):
     """Writes the stored run: the requests, the crate's answers after the rules of known_differences.py, and the files."""
-    plain = list(dict.fromkeys(requests.all_requests(arguments.seed, arguments.count)))
-    last = list(requests.tables(random.Random(arguments.seed)))
+    requests_before_tables = list(dict.fromkeys(requests.all_requests(arguments.seed, arguments.count)))
+    table_requests = list(requests.tables(random.Random(arguments.seed)))
     with tempfile.TemporaryDirectory() as directory, tempfile.TemporaryDirectory() as files:
         oracle = build_oracle(arguments, directory)
-        theirs = answers(oracle, plain, files)
-        answered = [known_differences.expected(request, line)[0] for request, line in zip(plain, theirs)]
-        lines = [plain[at] for at in select_requests(plain, answered)] + last
-        theirs = answers(oracle, lines, files)
+        theirs = answers_of(oracle, requests_before_tables, files)
+        expected_answers = [known_differences.expected(request, line)[0] for request, line in zip(requests_before_tables, theirs)]
+        selected = select_requests(requests_before_tables, expected_answers)
+        lines = [requests_before_tables[index] for index in selected] + table_requests
+        theirs = answers_of(oracle, lines, files)
     expected = [known_differences.expected(request, line)[0].line() for request, line in zip(lines, theirs)]
     os.makedirs(os.path.join(CRATE, 'data'), exist_ok=True)
     for name, body in requests.files().items():
@@ -148,14 +149,14 @@ def store(arguments):
 
 def main():
     parser = argparse.ArgumentParser(description=__doc__, formatter_class=argparse.RawDescriptionHelpFormatter)
-    parser.add_argument('what', choices=('run', 'list'))
+    parser.add_argument('command', choices=('run', 'list'))
     parser.add_argument('upstream', help="the directory of the crate's own files")
     parser.add_argument('--seed', type=int, default=1)
     parser.add_argument('--count', type=int, default=5000, help='about how many random requests to make of each kind')
     parser.add_argument('--program', default=os.path.join(CRATE, 'out', 'minisign_compare'))
     arguments = parser.parse_args()
-    done = run(arguments) if arguments.what == 'run' else store(arguments)
-    sys.exit(0 if done else 1)
+    succeeded = run(arguments) if arguments.command == 'run' else store(arguments)
+    sys.exit(0 if succeeded else 1)
 
 
 if __name__ == '__main__':

@@ -26,7 +26,7 @@ SPACES = [' ', '\t', '\x0b', '\x0c', '\r', '\x1c', '\x85', '\xa0', '\u1680', '\u
           '\u200b', '\u2028', '\u2029', '\u202f', '\u205f', '\u3000', '\ufeff', '\0']
 
 
-def hexed(data):
+def encode(data):
     """Encodes bytes for a request."""
     return 'x' + data.hex()
 
@@ -34,7 +34,7 @@ def hexed(data):
 def text(data):
     """Encodes a text for a request. The bytes have to be UTF-8."""
     data.decode()
-    return hexed(data)
+    return encode(data)
 
 
 def is_utf8(data):
@@ -51,10 +51,10 @@ def sealed_record(password, opslimit, memlimit, salt=bytes(range(32)), keynum=KE
     operations = max(32768, opslimit)
     n_log2 = 1
     if operations < memlimit // 32:
-        most, p = operations // 32, 1
+        max_rows, p = operations // 32, 1
     else:
-        most, p = memlimit // 1024, None
-    while n_log2 < 63 and (1 << n_log2) <= most // 2:
+        max_rows, p = memlimit // 1024, None
+    while n_log2 < 63 and (1 << n_log2) <= max_rows // 2:
         n_log2 += 1
     if p is None:
         p = min(0x3fffffff, (operations // 4 >> n_log2) & 0xffffffff) // 8
@@ -125,9 +125,9 @@ def public_key_texts(rng):
             yield f'pk_from_base64 {text(body)}'
             yield f'pk_from_box {text(COMMENT + bytes([10]) + body)}'
             yield f'pk_from_box {text(COMMENT + space + bytes([10]) + body + bytes([10]) + space)}'
-    for at in range(56):
+    for position in range(56):
         for letter in (0, 10, 13, 32, 43, 45, 47, 61, 65, 95, 122, 127):
-            changed = key[:at] + bytes([letter]) + key[at + 1:]
+            changed = key[:position] + bytes([letter]) + key[position + 1:]
             yield f'pk_from_base64 {text(changed)}'
             yield f'pk_from_box {text(COMMENT + bytes([10]) + changed)}'
 
@@ -151,8 +151,8 @@ def signature_lines():
 def signature_texts(rng):
     """Yields requests that parse signature files."""
     lines = signature_lines()
-    for four in itertools.product(*lines):
-        yield f'sig_from_string {text(toy.join_lines(four))}'
+    for four_lines in itertools.product(*lines):
+        yield f'sig_from_string {text(toy.join_lines(four_lines))}'
     for count in range(4):
         for chosen in itertools.product(*lines[:count]):
             body = b'\n'.join(chosen)
@@ -166,11 +166,11 @@ def signature_texts(rng):
         yield f'sig_from_string {text(good.replace(bytes([10]), end))}'
     for space in SPACES:
         space = space.encode()
-        for at, _ in enumerate(lines):
+        for number, _ in enumerate(lines):
             parts = good.split(b'\n')
-            for changed in (space + parts[at], parts[at] + space, parts[at].replace(b' ', space),
-                            parts[at][:9] + space + parts[at][9:]):
-                rest = parts[:at] + [changed] + parts[at + 1:]
+            for changed in (space + parts[number], parts[number] + space, parts[number].replace(b' ', space),
+                            parts[number][:9] + space + parts[number][9:]):
+                rest = parts[:number] + [changed] + parts[number + 1:]
                 yield f'sig_from_string {text(bytes([10]).join(rest))}'
         body = toy.signature_text(b'abc', trusted=space + b't' + space, untrusted=space + b'c' + space)
         yield f'sig_from_string {text(body)}'
@@ -179,8 +179,8 @@ def signature_texts(rng):
         encoded = base64.b64encode(raw)
         yield f'sig_from_string {text(toy.join_lines([lines[0][0], encoded, lines[2][0], lines[3][0]]))}'
         yield f'sig_from_string {text(toy.join_lines([lines[0][0], lines[1][0], lines[2][0], encoded]))}'
-        named = base64.b64encode((b'ED' + raw)[:max(length, 2)])
-        yield f'sig_from_string {text(toy.join_lines([lines[0][0], named, lines[2][0], encoded[:-1]]))}'
+        with_algorithm = base64.b64encode((b'ED' + raw)[:max(length, 2)])
+        yield f'sig_from_string {text(toy.join_lines([lines[0][0], with_algorithm, lines[2][0], encoded[:-1]]))}'
 
 
 def secret_key_texts(rng):
@@ -197,11 +197,11 @@ def secret_key_texts(rng):
             yield f'sk_open {text(body)} - x70'
     for kind in kinds:
         yield f'sk_plain {text(secret_text(kind))}'
-    for at in range(len(SECRET)):
+    for position in range(len(SECRET)):
         for bit in (1, 128):
-            changed = SECRET[:at] + bytes([SECRET[at] ^ bit]) + SECRET[at + 1:]
+            changed = SECRET[:position] + bytes([SECRET[position] ^ bit]) + SECRET[position + 1:]
             yield f'sk_plain {text(secret_text(changed))}'
-            yield f'sk_from_bytes {hexed(changed)}'
+            yield f'sk_from_bytes {encode(changed)}'
     for space in SPACES:
         space = space.encode()
         for body in (space + plain, plain + space, plain[:50] + space + plain[50:]):
@@ -217,20 +217,20 @@ def damaged(rng, body):
     """Returns a text with one to three random changes, or unchanged if it would no longer be UTF-8."""
     changed = bytearray(body)
     for _ in range(rng.choice((1, 1, 1, 2, 3))):
-        at = rng.randrange(len(changed) + 1) if changed else 0
-        what = rng.randrange(6)
-        if what == 0 and at < len(changed):
-            changed[at] ^= 1 << rng.randrange(7)
-        elif what == 1 and at < len(changed):
-            del changed[at]
-        elif what == 2:
-            changed[at:at] = rng.choice([b'\n', b'\r\n', b'\r', b' ', b'=', b'A', b'\xc2\xa0', b'\0'])
-        elif what == 3:
-            del changed[at:at + rng.randrange(1, 20)]
-        elif what == 4:
-            changed[at:at] = changed[at:at + rng.randrange(1, 20)]
-        elif at < len(changed):
-            changed[at] = rng.choice(b'\n\r =+/-_AZaz09:\x7f')
+        position = rng.randrange(len(changed) + 1) if changed else 0
+        kind = rng.randrange(6)
+        if kind == 0 and position < len(changed):
+            changed[position] ^= 1 << rng.randrange(7)
+        elif kind == 1 and position < len(changed):
+            del changed[position]
+        elif kind == 2:
+            changed[position:position] = rng.choice([b'\n', b'\r\n', b'\r', b' ', b'=', b'A', b'\xc2\xa0', b'\0'])
+        elif kind == 3:
+            del changed[position:position + rng.randrange(1, 20)]
+        elif kind == 4:
+            changed[position:position] = changed[position:position + rng.randrange(1, 20)]
+        elif position < len(changed):
+            changed[position] = rng.choice(b'\n\r =+/-_AZaz09:\x7f')
     return bytes(changed) if is_utf8(bytes(changed)) else body
 
 
@@ -246,8 +246,8 @@ def damaged_texts(rng, count):
         yield f'sig_from_string {text(damaged(rng, good))}'
         yield f'sig_from_string {text(damaged(rng, legacy))}'
         yield f'sk_plain {text(damaged(rng, secret))}'
-        which = rng.choice((good, legacy))
-        key, sig = (damaged(rng, good_key), which) if rng.randrange(3) == 0 else (good_key, damaged(rng, which))
+        sig_text = rng.choice((good, legacy))
+        key, sig = (damaged(rng, good_key), sig_text) if rng.randrange(3) == 0 else (good_key, damaged(rng, sig_text))
         flags = ' '.join(str(rng.randrange(2)) for _ in range(3))
         yield f'verify_texts {text(key)} {text(sig)} x616263 {flags}'
 
@@ -262,33 +262,33 @@ def records(rng, count):
         raw = bytes(rng.randrange(256) for _ in range(length))
         for begin in (b'', b'Ed', b'ED', b'eD', b'E'):
             record = (begin + raw)[:length]
-            yield f'pk_from_bytes {hexed(record)}'
-            yield f'sig_from_bytes {hexed(record)}'
-            yield f'bones_untrusted {hexed(record)}'
-            yield f'bones_trusted {hexed(record)}'
-            yield f'bones_to_string {hexed(record)}'
-            yield f'sk_from_bytes {hexed(record)}'
-            yield f'pk_to_box {hexed(record)}'
-            yield f'pk_from_secret_key {hexed(record)}'
-            yield f'sk_to_box {hexed(record)} -'
+            yield f'pk_from_bytes {encode(record)}'
+            yield f'sig_from_bytes {encode(record)}'
+            yield f'bones_untrusted {encode(record)}'
+            yield f'bones_trusted {encode(record)}'
+            yield f'bones_to_string {encode(record)}'
+            yield f'sk_from_bytes {encode(record)}'
+            yield f'pk_to_box {encode(record)}'
+            yield f'pk_from_secret_key {encode(record)}'
+            yield f'sk_to_box {encode(record)} -'
     for first in range(256):
         for second in (0, 1, 68, 99, 100, 255):
             algorithm = bytes([first, second])
-            yield f'sig_from_bytes {hexed(algorithm + bytes(72))}'
-            yield f'pk_from_bytes {hexed(algorithm + PUBLIC[2:])}'
-            yield f'sk_from_bytes {hexed(b"Ed" + algorithm + SECRET[4:])}'
+            yield f'sig_from_bytes {encode(algorithm + bytes(72))}'
+            yield f'pk_from_bytes {encode(algorithm + PUBLIC[2:])}'
+            yield f'sk_from_bytes {encode(b"Ed" + algorithm + SECRET[4:])}'
     comments = [b'', b'c', b'a comment', b'two\nlines', '\xe9\u2028'.encode(), b'x' * 300, b'\r', b' c ']
     for comment in comments:
-        yield f'sk_to_box {hexed(SECRET)} {text(comment)}'
+        yield f'sk_to_box {encode(SECRET)} {text(comment)}'
     for _ in range(count):
         public = PUBLIC[:10] + bytes(rng.choice((90, 90, 90, 91)) for _ in range(32))
         other = PUBLIC[:2] + bytes(8) + bytes(rng.choice((90, 90, 90, 91)) for _ in range(32))
-        yield f'pk_eq {hexed(rng.choice((public, PUBLIC)))} {hexed(rng.choice((other, public, PUBLIC)))}'
+        yield f'pk_eq {encode(rng.choice((public, PUBLIC)))} {encode(rng.choice((other, public, PUBLIC)))}'
         secret = bytearray(SECRET)
         secret[rng.randrange(158)] ^= 1 << rng.randrange(8)
-        yield f'sk_eq {hexed(SECRET)} {hexed(bytes(secret))}'
-        yield f'sk_from_bytes {hexed(bytes(secret))}'
-        yield f'pk_from_secret_key {hexed(bytes(secret))}'
+        yield f'sk_eq {encode(SECRET)} {encode(bytes(secret))}'
+        yield f'sk_from_bytes {encode(bytes(secret))}'
+        yield f'pk_from_secret_key {encode(bytes(secret))}'
 
 
 # ---- hashes, numbers, limits ------------------------------------------------------------------------
@@ -298,17 +298,17 @@ def hashes(rng, count):
     """Yields requests for BLAKE2b digests of each length, of data in one piece and in several."""
     for outlen in range(67):
         for length in (0, 1, 127, 128, 129, 255, 256, 257, 384):
-            yield f'blake2b {outlen} - {hexed(toy.some_data(length))}'
+            yield f'blake2b {outlen} - {encode(toy.some_data(length))}'
     data = toy.some_data(300)
     for cut in range(301):
-        yield f'blake2b 64 {cut} {hexed(data)}'
-        yield f'blake2b 32 {cut},{300 - cut} {hexed(data)}'
-        yield f'blake2b 64 - {hexed(data[:cut])}'
+        yield f'blake2b 64 {cut} {encode(data)}'
+        yield f'blake2b 32 {cut},{300 - cut} {encode(data)}'
+        yield f'blake2b 64 - {encode(data[:cut])}'
     for _ in range(count):
         length = rng.choice((rng.randrange(700), rng.randrange(4) * 128 + rng.randrange(-2, 3) % 700))
         body = bytes(rng.randrange(256) for _ in range(length))
         cuts = sorted(rng.randrange(length + 3) for _ in range(rng.randrange(1, 6)))
-        yield f'blake2b {rng.randrange(1, 65)} {",".join(map(str, cuts))} {hexed(body)}'
+        yield f'blake2b {rng.randrange(1, 65)} {",".join(map(str, cuts))} {encode(body)}'
 
 
 def numbers(rng, count):
@@ -316,31 +316,31 @@ def numbers(rng, count):
     values = [0, 1, 255, 256, 65535, 2 ** 32 - 1, 2 ** 32, 2 ** 63, 2 ** 64 - 1]
     for value in values + [rng.randrange(2 ** 64) for _ in range(count)]:
         yield f'store_u64_le {value}'
-        yield f'load_u64_le {hexed(value.to_bytes(8, "little"))}'
-        yield f'load_u64_le {hexed(value.to_bytes(8, "little") + bytes(rng.randrange(3)))}'
+        yield f'load_u64_le {encode(value.to_bytes(8, "little"))}'
+        yield f'load_u64_le {encode(value.to_bytes(8, "little") + bytes(rng.randrange(3)))}'
     for length in range(10):
-        yield f'load_u64_le {hexed(bytes(range(length)))}'
+        yield f'load_u64_le {encode(bytes(range(length)))}'
     for time in (0, 1, -1, -10 ** 9, 1700000000, 2 ** 40):
         yield f'unix_timestamp {time}'
     for left in range(6):
         for right in range(6):
-            yield f'fixed_time_eq {hexed(bytes(range(left)))} {hexed(bytes(range(right)))}'
+            yield f'fixed_time_eq {encode(bytes(range(left)))} {encode(bytes(range(right)))}'
     for _ in range(count):
         body = bytes(rng.randrange(256) for _ in range(rng.randrange(1, 70)))
-        at = rng.randrange(len(body))
-        other = body[:at] + bytes([body[at] ^ (1 << rng.randrange(8))]) + body[at + 1:]
-        yield f'fixed_time_eq {hexed(body)} {hexed(rng.choice((body, other, body[:-1])))}'
+        position = rng.randrange(len(body))
+        other = body[:position] + bytes([body[position] ^ (1 << rng.randrange(8))]) + body[position + 1:]
+        yield f'fixed_time_eq {encode(body)} {encode(rng.choice((body, other, body[:-1])))}'
 
 
 def limits(rng, count):
     """Yields requests that derive the parameters of scrypt from the limits of a secret key."""
-    edges = sorted({max(0, value + by) for value in
+    edges = sorted({max(0, value + offset) for value in
                     [0, 1024, 2048, 16384, 32768, 1 << 20, 1 << 25, 1 << 30, 1 << 31, 1 << 40, 1 << 63]
-                    for by in (-1, 0, 1)} | {2 ** 64 - 1})
+                    for offset in (-1, 0, 1)} | {2 ** 64 - 1})
     for memlimit in edges:
         for opslimit in edges:
-            for most in (0, 1, 14, 15, 20, 63, 255):
-                yield f'raw_scrypt_params {memlimit} {opslimit} {most}'
+            for max_log_n in (0, 1, 14, 15, 20, 63, 255):
+                yield f'raw_scrypt_params {memlimit} {opslimit} {max_log_n}'
     for _ in range(count):
         memlimit = rng.randrange(1 << rng.randrange(1, 65))
         opslimit = rng.randrange(1 << rng.randrange(1, 65))
@@ -359,7 +359,7 @@ def derivations(rng, count):
         password = bytes(rng.randrange(256) for _ in range(rng.choice((0, 1, 63, 64, 65, 100))))
         salt = bytes(rng.randrange(256) for _ in range(rng.choice((0, 1, 32, 55, 64, 119))))
         yield (f'scrypt {rng.randrange(1, 6)} {rng.randrange(1, 10)} {rng.randrange(1, 4)} '
-               f'{rng.choice((1, 31, 32, 33, 64, 104))} {hexed(password)} {hexed(salt)}')
+               f'{rng.choice((1, 31, 32, 33, 64, 104))} {encode(password)} {encode(salt)}')
 
 
 # ---- passwords and sealed keys ----------------------------------------------------------------------
@@ -380,8 +380,8 @@ def sealed_keys(rng, count):
                                (1 << 17, 2048)]:
         for password in (b'', b'p', b'x' * 100, '\xe9'.encode()):
             body = secret_text(sealed_record(password, opslimit, memlimit))
-            for given in (b'', b'p', b'x' * 100, '\xe9'.encode()):
-                yield f'sk_open {text(body)} {text(given)} -'
+            for passed_in in (b'', b'p', b'x' * 100, '\xe9'.encode()):
+                yield f'sk_open {text(body)} {text(passed_in)} -'
             for typed in ('-', text(password), f'{text(password)},x71', 'x', 'x71', text(b'x' * 1025)):
                 yield f'sk_open {text(body)} - {typed}'
                 yield f'sk_open {text(body)} {text(password)} {typed}'
@@ -394,10 +394,10 @@ def sealed_keys(rng, count):
             yield f'sk_open {text(secret_text(limited))} x70 -'
             yield f'sk_open {text(secret_text(limited))} - x70'
     for _ in range(count):
-        at = rng.randrange(158)
-        if 38 <= at < 54:
-            at = 53 + rng.randrange(1, 100)
-        changed = record[:at] + bytes([record[at] ^ (1 << rng.randrange(8))]) + record[at + 1:]
+        position = rng.randrange(158)
+        if 38 <= position < 54:
+            position = 53 + rng.randrange(1, 100)
+        changed = record[:position] + bytes([record[position] ^ (1 << rng.randrange(8))]) + record[position + 1:]
         yield f'sk_open {text(secret_text(changed))} x70 -'
     usual = toy.sealed_text(b'p')
     yield f'sk_open {text(usual)} x70 -'
@@ -423,8 +423,8 @@ def file_requests():
 def key_pairs(rng, count):
     """Yields requests that generate key pairs and write their files, with too few random bytes, failing writers, and passwords."""
     for length in range(75):
-        yield f'gen_plain {hexed(bytes(range(length)))}'
-        yield f'gen_write_plain {hexed(bytes(range(length)))} - -'
+        yield f'gen_plain {encode(bytes(range(length)))}'
+        yield f'gen_write_plain {encode(bytes(range(length)))} - -'
     for first in range(0, 256, 5):
         yield f'gen_plain c{first}'
     for capacity in list(range(45)) + [157, 158, 159]:
@@ -437,7 +437,7 @@ def key_pairs(rng, count):
     for left, right in itertools.product(('-', 'f', '0', 'f0', '42', 'f42', '158', 'f158'), repeat=2):
         yield f'gen_write_plain c9 {left} {right}'
     for length in (0, 31, 32, 39, 40, 71, 72, 73):
-        yield f'gen_sealed {hexed(bytes(range(length)))} x70 -'
+        yield f'gen_sealed {encode(bytes(range(length)))} x70 -'
     for typed in ('-', 'x', 'x,x', 'x70', 'x70,x70', 'x70,x71', 'x,x70', 'x70,x70,x71', text(b'x' * 1025),
                   f'x70,{text(b"x" * 1027)}', f'{text(b"x" * 1026)},x70', f'{text(b"x" * 1024)},{text(b"x" * 1024)}'):
         yield f'gen_sealed c1 - {typed}'
@@ -450,8 +450,8 @@ def key_pairs(rng, count):
         yield f'gen_write_sealed c3 {left} {right} x63 x70 -'
     for _ in range(count):
         body = bytes(rng.randrange(256) for _ in range(rng.choice((40, 71, 72, 80))))
-        yield f'gen_plain {hexed(body)}'
-        yield f'gen_write_plain {hexed(body)} {rng.choice(("-", rng.randrange(50)))} {rng.choice(("-", rng.randrange(170)))}'
+        yield f'gen_plain {encode(body)}'
+        yield f'gen_write_plain {encode(body)} {rng.choice(("-", rng.randrange(50)))} {rng.choice(("-", rng.randrange(170)))}'
 
 
 # ---- signing and verifying --------------------------------------------------------------------------
@@ -468,34 +468,34 @@ def data_word(rng, body, legacy=False, output=True):
     if rng.randrange(4) == 0:
         parts.append(f'fail={1 if legacy else rng.choice((1, 1, 2, 3, 4, 5, 8, 20))}')
     if output and rng.randrange(4) == 0:
-        parts.append(f'second={hexed(rng.choice((body, body[:-1], body + b"x", b"", b"z" * len(body))))}')
-    return ','.join([hexed(body)] + parts)
+        parts.append(f'second={encode(rng.choice((body, body[:-1], body + b"x", b"", b"z" * len(body))))}')
+    return ','.join([encode(body)] + parts)
 
 
 def signings(rng, count):
     """Yields requests that sign data."""
     # No public key, that of the secret key, another key with the same key ID, and the same key with another key ID.
-    keys = ['-', hexed(PUBLIC), hexed(PUBLIC[:10] + bytes(32)), hexed(PUBLIC[:2] + bytes(8) + PUBLIC[10:])]
+    keys = ['-', encode(PUBLIC), encode(PUBLIC[:10] + bytes(32)), encode(PUBLIC[:2] + bytes(8) + PUBLIC[10:])]
     comments = ['-', 'x', 'x74', text('\xe9\u3042'.encode()), text(b' t '), text(b't\nu'), text(b'x' * 500)]
     for key, trusted, untrusted in itertools.product(keys, comments, comments):
-        yield f'sign {key} {hexed(SECRET)} x616263 {trusted} {untrusted} c0 1700000000'
+        yield f'sign {key} {encode(SECRET)} x616263 {trusted} {untrusted} c0 1700000000'
     for length in range(132):
-        yield f'sign - {hexed(SECRET)} x616263 - - {hexed(bytes(range(length)))} 0'
+        yield f'sign - {encode(SECRET)} x616263 - - {encode(bytes(range(length)))} 0'
     for length in range(0, 43):
-        yield f'sign {hexed(PUBLIC[:length])} {hexed(SECRET)} x - - c0 0'
+        yield f'sign {encode(PUBLIC[:length])} {encode(SECRET)} x - - c0 0'
     for length in range(150, 160):
-        yield f'sign - {hexed((SECRET + b"xy")[:length])} x - - c0 0'
+        yield f'sign - {encode((SECRET + b"xy")[:length])} x - - c0 0'
     for time in (0, 1, 9999999999, 2 ** 62):
-        yield f'sign - {hexed(SECRET)} x - - c0 {time}'
+        yield f'sign - {encode(SECRET)} x - - c0 {time}'
     sealed = SECRET[:2] + b'Sc' + SECRET[4:]
     for secret in (sealed, sealed[:-1] + b'\0', SECRET[:2] + b'xx' + SECRET[4:], SECRET[:-1] + b'\0'):
-        yield f'sign - {hexed(secret)} x616263 - - c0 0'
+        yield f'sign - {encode(secret)} x616263 - - c0 0'
     for _ in range(count):
         body = toy.some_data(rng.choice((0, 1, 3, 127, 128, 129, 256, rng.randrange(600))))
         changed = bytearray(SECRET)
         if rng.randrange(4) == 0:
             changed[rng.randrange(158)] ^= 1 << rng.randrange(8)
-        yield (f'sign {rng.choice(keys)} {hexed(bytes(changed))} {data_word(rng, body, output=False)} '
+        yield (f'sign {rng.choice(keys)} {encode(bytes(changed))} {data_word(rng, body, output=False)} '
                f'{rng.choice(comments)} {rng.choice(comments)} c{rng.randrange(256)} {rng.randrange(2 ** 40)}')
 
 
@@ -514,12 +514,12 @@ def verifications(rng, count):
     keys = [PUBLIC, PUBLIC[:10] + bytes(32), PUBLIC[:2] + bytes(8) + PUBLIC[10:], b'xx' + PUBLIC[2:], PUBLIC[:41]]
     boxes = []
     for record in (signature, legacy, other, wrong):
-        boxes.append('bones:' + hexed(record))
+        boxes.append('bones:' + encode(record))
         boxes.append(text(toy.signature_text(b'abc', record=record)))
         boxes.append(text(toy.signature_text(b'abc', record=record, trusted=b'', untrusted=b'')))
         boxes.append(text(toy.signature_text(b'abc', record=record, comment_signature=bytes(64))))
     for key, box, data, flags in itertools.product(keys, boxes, (b'abc', b'abd', b''), all_flags()):
-        yield f'verify {hexed(key)} {box} {hexed(data)} {flags}'
+        yield f'verify {encode(key)} {box} {encode(data)} {flags}'
     for length in range(0, 80):
         global_signature = (toy.signature_of(signature[10:] + b't') + b'extra bytes here')[:length]
         box = toy.signature_text(b'abc', comment_signature=global_signature or b'\0')
@@ -527,13 +527,13 @@ def verifications(rng, count):
             lines = box.split(b'\n')
             box = b'\n'.join(lines[:3] + [b'', b''])
         for flags in ('0 0 0', '1 1 1'):
-            yield f'verify {hexed(PUBLIC)} {text(box)} x616263 {flags}'
+            yield f'verify {encode(PUBLIC)} {text(box)} x616263 {flags}'
     for chunk in (1, 2, 3, 4):
         for fail in range(12):
             for flags in ('0 1 0', '1 0 0', '1 1 0'):
                 part = f',fail={fail}' if fail else ''
-                yield f'verify {hexed(PUBLIC)} {boxes[1]} x616263,chunk={chunk}{part} {flags}'
-                yield f'verify {hexed(PUBLIC)} {boxes[1]} x7878616263,pos=2,chunk={chunk}{part} {flags}'
+                yield f'verify {encode(PUBLIC)} {boxes[1]} x616263,chunk={chunk}{part} {flags}'
+                yield f'verify {encode(PUBLIC)} {boxes[1]} x7878616263,pos=2,chunk={chunk}{part} {flags}'
     key_text = text(toy.public_text())
     for flags in all_flags():
         for box in boxes:
@@ -542,17 +542,17 @@ def verifications(rng, count):
         body = toy.some_data(rng.choice((0, 1, 3, 127, 128, 129, 256, rng.randrange(600))))
         is_legacy = rng.randrange(3) == 0
         word = data_word(rng, body, is_legacy)
-        place = next((int(part[4:]) for part in word.split(',') if part.startswith('pos=')), 0)
+        start = next((int(part[4:]) for part in word.split(',') if part.startswith('pos=')), 0)
         trusted = rng.choice((b't', b'', b'timestamp:1', '\xe9'.encode(), b'x' * 200))
-        record = toy.signature_record(body[place:], algorithm=b'Ed' if is_legacy else b'ED')
+        record = toy.signature_record(body[start:], algorithm=b'Ed' if is_legacy else b'ED')
         if rng.randrange(4) == 0:
-            at = rng.randrange(2, 74)
-            record = record[:at] + bytes([record[at] ^ (1 << rng.randrange(8))]) + record[at + 1:]
+            position = rng.randrange(2, 74)
+            record = record[:position] + bytes([record[position] ^ (1 << rng.randrange(8))]) + record[position + 1:]
         box = toy.signature_text(body, record=record, trusted=trusted)
-        sig = rng.choice((text(box), text(box), 'bones:' + hexed(record)))
+        sig = rng.choice((text(box), text(box), 'bones:' + encode(record)))
         flags = ' '.join(str(rng.randrange(2)) for _ in range(3))
         if rng.randrange(2):
-            yield f'verify {hexed(PUBLIC)} {sig} {word} {flags}'
+            yield f'verify {encode(PUBLIC)} {sig} {word} {flags}'
         else:
             yield f'verify_texts {key_text} {sig} {word} {flags}'
 
@@ -564,8 +564,8 @@ def large_data():
         for algorithm in (b'ED', b'Ed'):
             sig = toy.signature_text(body, record=toy.signature_record(body, algorithm=algorithm))
             for flags in ('0 1 1', '1 0 1'):
-                yield f'verify {hexed(PUBLIC)} {text(sig)} {hexed(body)} {flags}'
-        yield f'sign {hexed(PUBLIC)} {hexed(SECRET)} {hexed(body)} x74 x63 c0 0'
+                yield f'verify {encode(PUBLIC)} {text(sig)} {encode(body)} {flags}'
+        yield f'sign {encode(PUBLIC)} {encode(SECRET)} {encode(body)} x74 x63 c0 0'
 
 
 def tables(rng):
@@ -574,13 +574,13 @@ def tables(rng):
     record = b'ED' + KEYNUM + bytes(rng.randrange(256) for _ in range(64))
     comment_signature = bytes(rng.randrange(256) for _ in range(64))
     box = toy.signature_text(b'abc', record=record, comment_signature=comment_signature)
-    verify = f'verify {hexed(b"Ed" + KEYNUM + public)} {text(box)} x616263 0 0 0'
+    verify = f'verify {encode(b"Ed" + KEYNUM + public)} {text(box)} x616263 0 0 0'
     yield verify
-    yield f'table_add {hexed(toy.digest(b"abc"))} {hexed(public)} {hexed(record[10:])}'
+    yield f'table_add {encode(toy.digest(b"abc"))} {encode(public)} {encode(record[10:])}'
     yield verify
-    yield f'table_add {hexed(record[10:] + b"t")} {hexed(public)} {hexed(comment_signature)}'
+    yield f'table_add {encode(record[10:] + b"t")} {encode(public)} {encode(comment_signature)}'
     yield verify
-    yield f'sign {hexed(b"Ed" + KEYNUM + public)} {hexed(SECRET)} x616263 x74 - c0 0'
+    yield f'sign {encode(b"Ed" + KEYNUM + public)} {encode(SECRET)} x616263 x74 - c0 0'
     yield 'table_clear'
     yield verify
 

@@ -3,6 +3,8 @@
 //!
 //!     LONG LIST NAME DATA
 //!
+//! Words after these four are ignored.
+//!
 //! LONG says how to read a digest of 128 digits on a line that does not name its hash function: as
 //! SHA-512 (`sha512`), as BLAKE2b (`blake2b`), or not at all, so that the line is malformed (`-`).
 //! LIST, NAME and DATA are hexadecimal digits between brackets, so that no word is empty.
@@ -63,8 +65,8 @@ fn write_answer<W: Write>(answer: &Answer, answers: &mut W) -> io::Result<bool> 
 }
 
 // Returns the word with this index, or an empty word.
-fn word(line: &str, number: usize) -> &str {
-    match line.split(' ').nth(number) {
+fn word(line: &str, index: usize) -> &str {
+    match line.split(' ').nth(index) {
         Some(word) => word,
         None => "",
     }

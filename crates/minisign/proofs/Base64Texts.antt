@@ -25,12 +25,12 @@ all_bytes (x ∷ xs) zero = omega arith
 all_bytes (x ∷ xs) (suc i) = all_bytes xs i
 
 -- Reducing bytes modulo 256 does not change them.
-bytes_same : (xs : List ℕ) → IsBytes xs → map (λ b. b % 256) xs ≡ xs
-bytes_same [] h = refl
-bytes_same (x ∷ xs) h =
+reduced_bytes_same : (xs : List ℕ) → IsBytes xs → map (λ b. b % 256) xs ≡ xs
+reduced_bytes_same [] h = refl
+reduced_bytes_same (x ∷ xs) h =
     let small = h 0 in
     let same : x % 256 ≡ x = omega arith in
-    λ i. same i ∷ bytes_same xs (λ k. h (suc k)) i
+    λ i. same i ∷ reduced_bytes_same xs (λ k. h (suc k)) i
 
 outcome_bytes : (error : Option DecodeError) (bytes b : List ℕ) → decode_outcome error bytes ≡ Ok b
     → bytes ≡ b
@@ -42,18 +42,21 @@ pub decoded : (s b : List ℕ) → IsBase64Of s b → decode_of standard s ≡ O
 unfolding base64_of
 decoded s b h = ap (decode_of standard) h.encoded ∙ decode_of-encode_of standard b refl h.each
 
+-- If a text is the base64 of some bytes, base64_bytes gives these bytes.
 pub bytes_read : (s b : List ℕ) → IsBase64Of s b → base64_bytes s ≡ b
 unfolding base64_bytes
-bytes_read s b h = ap (map (λ b. b % 256)) (outcome_bytes _ _ b (decoded s b h)) ∙ bytes_same b h.each
+bytes_read s b h = ap (map (λ b. b % 256)) (outcome_bytes _ _ b (decoded s b h)) ∙ reduced_bytes_same b h.each
 
 -- A text is the base64 of at most one list of bytes.
 pub one_decoding : (s a b : List ℕ) → IsBase64Of s a → IsBase64Of s b → a ≡ b
 one_decoding s a b first second = sym (bytes_read s a first) ∙ bytes_read s b second
 
+-- The base64 of bytes passes the base64 test.
 pub is_read : (s b : List ℕ) → IsBase64Of s b → is_base64 s ≡ true
 unfolding is_base64
 is_read s b h = (bytes_eq-Decides s _).1 (h.encoded ∙ ap base64_of (sym (bytes_read s b h)))
 
+-- A text that passes the base64 test is the base64 of the bytes that base64_bytes gives.
 pub reads : (s : List ℕ) → is_base64 s ≡ true → IsBase64Of s (base64_bytes s)
 unfolding is_base64 base64_bytes
 reads s h = record { each = all_bytes _; encoded = (bytes_eq-Decides s _).0 h }
@@ -67,16 +70,16 @@ not_read s t e d same failure is =
     (λ read. let ok = sym (decoded t _ (reads t read)) ∙ failed in cc ok)
 
 -- The base64 of fewer than n bytes passes the base64 test, and decodes to fewer than n bytes.
-pub short_of : (text b d : List ℕ) (n : ℕ) → IsBase64Of text b → d ≡ b → length d < n
+pub base64_of_fewer_bytes : (text b d : List ℕ) (n : ℕ) → IsBase64Of text b → d ≡ b → length d < n
     → (is_base64 text ≡ true) × (length (base64_bytes text) < n)
-short_of text b d n h same short = (
+base64_of_fewer_bytes text b d n h same short = (
   is_read _ b h,
   rw (same ∙ sym (bytes_read text b h)) at short,
 )
 
 -- If some text is the base64 of bytes, then base64_of gives the base64 of these bytes.
-pub own_base64 : (t b d : List ℕ) → IsBase64Of t b → b ≡ d → IsBase64Of (base64_of d) d
-own_base64 t b d h same = record { each = rw same at h.each; encoded = refl }
+pub base64_of_bytes : (t b d : List ℕ) → IsBase64Of t b → b ≡ d → IsBase64Of (base64_of d) d
+base64_of_bytes t b d h same = record { each = rw same at h.each; encoded = refl }
 
 -- The error of decoding into a slice that is large enough.
 error_of : List ℕ → Option DecodeError
@@ -84,10 +87,12 @@ error_of s =
     decode_error standard.decode_table standard.padding.value standard.config.decode_allow_trailing_bits
     standard.config.decode_padding_mode s
 
-in_room : (s : List ℕ) (room : ℕ) → decoded_estimate (length s) ≤ room → decode_slice_of standard s room
+-- Decoding into a slice that is large enough gives the error of the text, or the number of bytes.
+slice_result_of_text : (s : List ℕ) (room : ℕ) → decoded_estimate (length s) ≤ room
+    → decode_slice_of standard s room
     ≡ or_error (error_of s) (Ok (length (decoded_bytes_of standard s)))
 unfolding error_of
-in_room s room fits =
+slice_result_of_text s room fits =
     slice_result_room standard.decode_table _ _ standard.config.decode_allow_trailing_bits
     standard.config.decode_padding_mode _ fits
 
@@ -103,7 +108,7 @@ pub piece_read : (s : List ℕ) (room n : ℕ) (r : Result ℕ DecodeSliceError)
 unfolding error_of base64_of
 piece_read s _ n r fits each bytes value ok =
     let parts = or_error_ok (error_of s) (length (decoded_bytes_of standard s)) n
-    (sym (in_room s _ fits) ∙ sym value ∙ ok) in
+    (sym (slice_result_of_text s _ fits) ∙ sym value ∙ ok) in
     let whole = ap (λ e. decode_outcome e (decoded_bytes_of standard s)) parts.0 in
     (record { each = bytes; encoded = decode_of_strict standard s _ (refl, refl) each whole }, parts.1)
 
@@ -114,7 +119,7 @@ pub piece_unread : (s : List ℕ) (room : ℕ) (e : DecodeSliceError) (r : Resul
 unfolding error_of
 piece_unread s room e r fits value err = false_from_ne_true _ (λ read.
     let none = outcome_ok _ _ _ (decoded s _ (reads s read)) in
-    let no = sym err ∙ value ∙ in_room s _ fits
+    let no = sym err ∙ value ∙ slice_result_of_text s _ fits
     ∙ ap (λ x. or_error x (Ok (length (decoded_bytes_of standard s)))) none in
     cc no)
 
@@ -127,11 +132,13 @@ length_base64 b =
     length-append _ _ ∙ (λ i. length-encode_symbols standard.encode_table b i + length-replicate {A = ℕ}
     (padding_len n) 61 i) ∙ exact
 
+-- The concatenation of two lists of bytes is a list of bytes.
 pub both_bytes : (a b : List ℕ) → IsBytes a → IsBytes b → IsBytes (a ++ b)
 both_bytes [] b h j i = j i
 both_bytes (x ∷ a) b h j zero = h 0
 both_bytes (x ∷ a) b h j (suc i) = both_bytes a b (λ k. h (suc k)) j i
 
+-- If the concatenation of two lists is a list of bytes, the second list is.
 back_bytes : (a b : List ℕ) → IsBytes (a ++ b) → IsBytes b
 back_bytes [] b h = h
 back_bytes (x ∷ a) b h = back_bytes a b (λ k. h (suc k))
@@ -159,6 +166,7 @@ pub record IsCut (s t b : List ℕ) : Type 0 where
   pub front_length : length front ≡ length s / 4 * 3
   pub back_read : IsBase64Of t back
 
+-- Base64 can be cut after whole groups of four characters, if some characters are left.
 pub cut : (s t b : List ℕ) → IsBase64Of (s ++ t) b → length s % 4 ≡ 0 → 0 < length t → IsCut s t b
 cut s t b h groups some =
     let k = length s / 4 in
@@ -222,6 +230,7 @@ module _ (s t text : List ℕ) (is : text ≡ s ++ t) (groups : length s % 4 ≡
       let no = sym none ∙ is_read t _ parts.back_read in
       cc no)
 
+-- The first n characters and the rest give the text when they are joined.
 pub rejoined : (text s t : List ℕ) (n : ℕ) → s ≡ take n text → t ≡ drop n text → text ≡ s ++ t
 rejoined text s t n front back = sym ((λ i. front i ++ back i) ∙ take-append-drop n text)
 

@@ -10,7 +10,7 @@ use Rattle.std.proofs.lemmas.List.Sums.{fails_before_first}
 use Rattle.std.proofs.lemmas.List.Splits.{length-slice_split, slice_split_first, slice_split_none}
 use Rattle.std.specs.List.{position_or_len, before_first}
 use Rattle.minisign.proofs.WrittenLines.{lines_of_parts-cons}
-use Rattle.minisign.specs.SignatureText.{IsAtOffset, behind_line, comment_offset, comment_start}
+use Rattle.minisign.specs.SignatureText.{IsAtOffset, after_first_line, comment_offset, comment_start}
 use Rattle.minisign.specs.SignatureText.{SignatureText}
 use Rattle.minisign.specs.SignatureText.{SignatureTextRecord, trusted_comment_label}
 
@@ -42,25 +42,27 @@ only w x more false h = let none : ◌≡◌ {A = List (List ℕ)} [] more = cc 
 -- The first line is a prefix of the text, and the other lines are those of the text after its line
 -- feed.
 pub front_line : (w x : List ℕ) (more : List (List ℕ)) → lines w ≡ x ∷ more → (take (length x) w ≡ x)
-    × (lines (behind_line w) ≡ more)
+    × (lines (after_first_line w) ≡ more)
 front_line w x more cut = ⊎_elim some none (cases_lt (position_or_len is_feed w) (length w))
   where
-    some : position_or_len is_feed w < length w → (take (length x) w ≡ x) × (lines (behind_line w) ≡ more)
+    some : position_or_len is_feed w < length w
+        → (take (length x) w ≡ x) × (lines (after_first_line w) ≡ more)
     some l =
         let before = before_first is_feed w in
         let parts = slice_split_first is_feed w 0 l in
-        let these : strip_carriage_return before ∷ lines (behind_line w) ≡ x ∷ more =
-        sym (ap lines_of_parts parts ∙ lines_of_parts-cons before (slice_split is_feed (behind_line w))
-        (omega (arith, length-slice_split is_feed (behind_line w)))) ∙ cut in
+        let these : strip_carriage_return before ∷ lines (after_first_line w) ≡ x ∷ more =
+        sym (ap lines_of_parts parts ∙ lines_of_parts-cons before (slice_split is_feed (after_first_line w))
+        (omega (arith, length-slice_split is_feed (after_first_line w)))) ∙ cut in
         let same : strip_carriage_return before ≡ x = cc these in
-        let rest : lines (behind_line w) ≡ more = cc these in
+        let rest : lines (after_first_line w) ≡ more = cc these in
         let front = strip_front before in
         let n : length before ≡ position_or_len is_feed w = length-take-le (position_or_len is_feed w) w
         (omega (arith, l)) in
         let at = sym (take-take _ (position_or_len is_feed w) w (omega (arith, n, front.1))) ∙ front.0 in
         (subst (λ (y : List ℕ). take (length y) w ≡ y) same at, rest)
 
-    none : length w ≤ position_or_len is_feed w → (take (length x) w ≡ x) × (lines (behind_line w) ≡ more)
+    none : length w ≤ position_or_len is_feed w
+        → (take (length x) w ≡ x) × (lines (after_first_line w) ≡ more)
     none l =
         let one = ap lines_of_parts (slice_split_none is_feed w
         (λ k d m. fails_before_first is_feed w k d (omega (arith, l, m)))) in
@@ -130,7 +132,7 @@ in_line line comment own rest trimmed n labelled also begun at ended front fits 
 -- The offset and length of the trusted comment in a signature text, from its place in the third
 -- line.
 pub in_text : (text third line : List ℕ) (t : SignatureTextRecord) (start len : ℕ) → SignatureText text t
-    → third ≡ behind_line (behind_line text)
+    → third ≡ after_first_line (after_first_line text)
     → line ≡ slice_index_or (lines third) 0 [] → length line ≤ length third
     → ((comment : List ℕ) → line ≡ trusted_comment_label ++ comment
     → (start ≡ comment_start line) × (len ≡ length (trim comment)) × IsAtOffset (trim comment) line start)
@@ -139,7 +141,7 @@ pub in_text : (text third line : List ℕ) (t : SignatureTextRecord) (start len 
 unfolding comment_offset
 in_text text third line t start _ h third_is line_is fits place =
     let second_on = (front_line text _ _ h.cut).1 in
-    let third_on = (front_line (behind_line text) _ _ second_on).1 in
+    let third_on = (front_line (after_first_line text) _ _ second_on).1 in
     let cut = ap lines third_is ∙ third_on in
     let same = line_is ∙ ap (λ l. slice_index_or l 0 []) cut in
     let front =
@@ -148,7 +150,7 @@ in_text text third line t start _ h third_is line_is fits place =
     let (comment, labelled, trimmed) = h.trusted_comment in
     let p = place comment (same ∙ labelled) in
     let one = position_or_len is_feed text + 1 in
-    let two = position_or_len is_feed (behind_line text) + 1 in
+    let two = position_or_len is_feed (after_first_line text) + 1 in
     let at = third_is ∙ drop-drop two one text in (
       ap (λ n. length text - length third + n) p.0
           ∙ ap (λ l. length text - length third + comment_start l) line_is

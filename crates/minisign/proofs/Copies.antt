@@ -6,25 +6,26 @@ use Rattle.minisign.proofs.Common.{AppendsPrefix-after, AppendsPrefix-keeps, App
 use Rattle.minisign.specs.Reading.{KnownBytesAre}
 
 -- A sink that received all of a text received a prefix of the text.
-pub front_of_all : (a b c : Option (List ℕ)) (bs : List ℕ) → Appends a b bs → Keeps b c → AppendsPrefix a c bs
-front_of_all a b c bs all kept =
+pub prefix_of_all : (a b c : Option (List ℕ)) (bs : List ℕ) → Appends a b bs → Keeps b c
+    → AppendsPrefix a c bs
+prefix_of_all a b c bs all kept =
     rw (append-nil bs) at (AppendsPrefix-after a b c bs [] all (AppendsPrefix-keeps b c [] kept))
 
 -- A prefix of the bytes read so far is a prefix of all the unread bytes.
-pub front_of_ahead : (ahead now old new : Option (List ℕ)) (bs : List ℕ) → Consumes ahead now bs
+pub prefix_of_ahead : (ahead now old new : Option (List ℕ)) (bs : List ℕ) → Consumes ahead now bs
     → AppendsPrefix old new bs
     → (message : List ℕ) × KnownBytesAre ahead message × AppendsPrefix old new message
-front_of_ahead None _ _ _ bs _ front = (bs, tt, front)
-front_of_ahead (Some _) None _ _ _ read _ = absurd read
-front_of_ahead (Some xs) (Some ys) old new bs read front =
+prefix_of_ahead None _ _ _ bs _ front = (bs, tt, front)
+prefix_of_ahead (Some _) None _ _ _ read _ = absurd read
+prefix_of_ahead (Some xs) (Some ys) old new bs read front =
     (xs, refl, rw (sym read) at (AppendsPrefix-more old new bs ys front))
 
 -- Before anything is read, an output that received nothing received a prefix of all the unread
 -- bytes.
-pub front_of_nothing : (ahead old new : Option (List ℕ)) → Keeps old new
+pub prefix_of_nothing : (ahead old new : Option (List ℕ)) → Keeps old new
     → (message : List ℕ) × KnownBytesAre ahead message × AppendsPrefix old new message
-front_of_nothing None _ _ kept = ([], tt, AppendsPrefix-keeps _ _ [] kept)
-front_of_nothing (Some xs) _ _ kept = (xs, refl, AppendsPrefix-keeps _ _ xs kept)
+prefix_of_nothing None _ _ kept = ([], tt, AppendsPrefix-keeps _ _ [] kept)
+prefix_of_nothing (Some xs) _ _ kept = (xs, refl, AppendsPrefix-keeps _ _ xs kept)
 
 -- The bytes of an unchanged sink are kept.
 pub keeps_same : (known : Option (List ℕ)) → Keeps known known

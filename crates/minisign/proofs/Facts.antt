@@ -64,14 +64,14 @@ pub base64_of_foobar : base64_of (codes "foobar") ≡ codes "Zm9vYmFy"
 unfolding readers
 base64_of_foobar = refl
 
-pub base64_of_all_letters : base64_of (
+pub base64_of_all_characters : base64_of (
     0x00 ∷ 0x10 ∷ 0x83 ∷ 0x10 ∷ 0x51 ∷ 0x87 ∷ 0x20 ∷ 0x92 ∷ 0x8b ∷ 0x30 ∷ 0xd3 ∷ 0x8f ∷ 0x41 ∷ 0x14 ∷ 0x93 ∷
     0x51 ∷ 0x55 ∷ 0x97 ∷ 0x61 ∷ 0x96 ∷ 0x9b ∷ 0x71 ∷ 0xd7 ∷ 0x9f ∷ 0x82 ∷ 0x18 ∷ 0xa3 ∷ 0x92 ∷ 0x59 ∷ 0xa7 ∷
     0xa2 ∷ 0x9a ∷ 0xab ∷ 0xb2 ∷ 0xdb ∷ 0xaf ∷ 0xc3 ∷ 0x1c ∷ 0xb3 ∷ 0xd3 ∷ 0x5d ∷ 0xb7 ∷ 0xe3 ∷ 0x9e ∷ 0xbb ∷
     0xf3 ∷ 0xdf ∷ 0xbf ∷ []
     ) ≡ codes "ABCDEFGHIJKLMNOPQRSTUVWXYZabcdefghijklmnopqrstuvwxyz0123456789+/"
 unfolding readers
-base64_of_all_letters = refl
+base64_of_all_characters = refl
 
 -- == The key that was published with the Rust crate: tests/corpus/published.pub ==
 
@@ -108,11 +108,11 @@ pub key_without_second_line : read_public_key (line key_comment) ≡ Err (Named 
 unfolding readers
 key_without_second_line = refl
 
-pub key_line_with_blank :
+pub key_line_with_space :
     read_public_key (line key_comment ++ line (key_line ++ codes " "))
     ≡ Err (Named named.PublicKeyLineLength)
 unfolding readers
-key_line_with_blank = refl
+key_line_with_space = refl
 
 pub key_line_with_star :
     read_public_key (line key_comment ++ line (codes "*" ++ drop 1 key_line))
@@ -130,11 +130,11 @@ pub bare_key_cut_off : read_bare_public_key (take 55 key_line) ≡ Err (Named na
 unfolding readers
 bare_key_cut_off = refl
 
-pub bare_key_with_blank :
+pub bare_key_with_space :
     read_bare_public_key (key_line ++ codes " ")
     ≡ Err (Named named.BarePublicKeyNotBase64)
 unfolding readers
-bare_key_with_blank = refl
+bare_key_with_space = refl
 
 -- == The signature that was published with it, of the four bytes `test`: tests/corpus/published.minisig ==
 
@@ -203,12 +203,12 @@ pub comment_of_text : comment_offset
 unfolding readers comment_offset
 comment_of_text = refl
 
-pub comment_behind_spaces :
+pub comment_after_spaces :
     comment_offset (text_of (untrusted_line ++ 13 ∷ []) (signature_line ++ 13 ∷ [])
     (codes "trusted comment:   x " ++ 13 ∷ [])
     comment_signature_line) ≡ 176
 unfolding readers comment_offset
-comment_behind_spaces = refl
+comment_after_spaces = refl
 
 -- A text for each error.
 pub signature_without_first_line : read_signature [] ≡ Err (Named named.MissingUntrustedComment)
@@ -237,11 +237,11 @@ pub signature_without_label :
 unfolding readers
 signature_without_label = refl
 
-pub signature_with_letter_lost :
+pub signature_without_first_character :
     read_signature (text_of untrusted_line (drop 1 signature_line) trusted_line comment_signature_line)
     ≡ Err (Named named.SignatureNotBase64)
 unfolding readers
-signature_with_letter_lost = refl
+signature_without_first_character = refl
 
 pub signature_of_73_bytes :
     read_signature (text_of untrusted_line (take 96 signature_line ++ codes "Zw==") trusted_line
@@ -263,11 +263,11 @@ pub signature_of_algorithm_ET :
 unfolding readers
 signature_of_algorithm_ET = refl
 
-pub comment_signature_with_letter_lost :
+pub comment_signature_without_first_character :
     read_signature (text_of untrusted_line signature_line trusted_line (drop 1 comment_signature_line))
     ≡ Err (Named named.SignatureNotBase64)
 unfolding readers
-comment_signature_with_letter_lost = refl
+comment_signature_without_first_character = refl
 
 -- == Secret keys: a text for each error ==
 
@@ -281,11 +281,11 @@ pub secret_key_without_second_line :
 unfolding readers
 secret_key_without_second_line = refl
 
-pub secret_key_with_blank :
+pub secret_key_with_space :
     read_secret_key (line (codes "comment") ++ line (codes "Zm9v "))
     ≡ Err (Named named.SecretKeyNotBase64)
 unfolding readers
-secret_key_with_blank = refl
+secret_key_with_space = refl
 
 pub secret_key_of_157_bytes :
     read_secret_key (line (codes "comment") ++ line (base64_of (replicate 157 0)))
@@ -327,15 +327,15 @@ verdict_on accepts key signature message =
     verdict accepts (line key_comment ++ line key)
     (text_of untrusted_line signature trusted_line comment_signature_line) message false
 
-pub verdict_where_all_is_accepted : verdict_on (λ _ _ _. true) key_line signature_line [] ≡ Ok trusted_comment
+pub verdict_if_all_is_accepted : verdict_on (λ _ _ _. true) key_line signature_line [] ≡ Ok trusted_comment
 unfolding verdicts
-verdict_where_all_is_accepted = refl
+verdict_if_all_is_accepted = refl
 
-pub verdict_where_both_are_accepted :
+pub verdict_if_both_are_accepted :
     verdict_on accepts_both key_line signature_line (codes "test")
     ≡ Ok trusted_comment
 unfolding verdicts
-verdict_where_both_are_accepted = refl
+verdict_if_both_are_accepted = refl
 
 pub verdict_under_another_key_id :
     verdict_on (λ _ _ _. true) (codes "RWQg" ++ drop 4 key_line) signature_line []
@@ -356,8 +356,8 @@ pub verdict_on_other_data :
 unfolding verdicts
 verdict_on_other_data = refl
 
-pub verdict_where_the_comment_is_rejected :
+pub verdict_if_the_comment_is_rejected :
     verdict_on accepts_signature key_line signature_line (codes "test")
     ≡ Err (Named named.CommentSignatureRefused)
 unfolding verdicts
-verdict_where_the_comment_is_rejected = refl
+verdict_if_the_comment_is_rejected = refl

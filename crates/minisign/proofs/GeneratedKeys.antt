@@ -17,14 +17,14 @@ use Rattle.minisign.specs.KeyTexts.{read_secret_key, secret_key_text}
 use Rattle.minisign.specs.declared.making.Sealing.{Sealing}
 use Rattle.minisign.proofs.SealingLimits.{sealing_numbers}
 use Rattle.minisign.specs.Texts.{and_then, require}
-use Rattle.minisign.proofs.Openings.{opened_within, sealed_taken, unencrypted_taken, unencrypted_text}
+use Rattle.minisign.proofs.Openings.{opened_within, sealed_if, unencrypted_if, unencrypted_text}
 
 -- The scrypt parameters of a key are those for the limits that it stores.
-pub limits_named : (k : SecretKeyRecord) (operations memory : ℕ) → operations < 2 ^ 64 → memory < 2 ^ 64
+pub limits_of_fields : (k : SecretKeyRecord) (operations memory : ℕ) → operations < 2 ^ 64 → memory < 2 ^ 64
     → k.operations_limit ≡ to_le_bytes w64 operations → k.memory_limit ≡ to_le_bytes w64 memory
     → key_limits k ≡ sealing_limits memory operations
 unfolding key_limits
-limits_named k operations memory some more same_operations same_memory =
+limits_of_fields k operations memory some more same_operations same_memory =
     rw (
       same_operations,
       same_memory,
@@ -37,22 +37,26 @@ unbounded : (r : Result Numbers Fault) → and_then r (λ v. Ok v) ≡ r
 unbounded (Ok v) = refl
 unbounded (Err e) = refl
 
+-- Without a bound on p, the work is allowed only if the limits are.
 pub work_allowed : (k : SecretKeyRecord) (l : Result Numbers Fault) → key_limits k ≡ l
     → IsOk (allowed_work k None) → IsOk l
 work_allowed k l same h = rw (unbounded (key_limits k) ∙ same) at h
 
 -- If the limits l are allowed, unwrap_or (result_err l) f is f.
-pub other_fault : (l : Result Numbers Fault) (e f : Fault) → IsOk l → e ≡ f → e ≡ unwrap_or (result_err l) f
-other_fault (Ok v) e f _ is = is
-other_fault (Err g) e f ok _ = absurd (true≢false (sym ok))
+pub fault_of_allowed_limits : (l : Result Numbers Fault) (e f : Fault) → IsOk l → e ≡ f
+    → e ≡ unwrap_or (result_err l) f
+fault_of_allowed_limits (Ok v) e f _ is = is
+fault_of_allowed_limits (Err g) e f ok _ = absurd (true≢false (sym ok))
 
 -- If encrypting a key fails, the error is that of its limits, or out of memory if they are allowed.
 pub stream_fault : (k : SecretKeyRecord) (l : Result Numbers Fault) (e : Fault) → key_limits k ≡ l
     → ((e ≡ Named OutOfMemory) × IsOk (allowed_work k None)) ⊎ (allowed_work k None ≡ Err e)
     → e ≡ unwrap_or (result_err l) (Named OutOfMemory)
-stream_fault k l e same (inl (memory, allowed)) = other_fault l e _ (work_allowed k l same allowed) memory
+stream_fault k l e same (inl (memory, allowed)) =
+    fault_of_allowed_limits l e _ (work_allowed k l same allowed) memory
 stream_fault k l e same (inr refused) = rw (← same, ← unbounded (key_limits k), refused) refl
 
+-- Limits that are allowed give the parameters that `numbers` computes.
 allowed_limits : (memory operations : ℕ) (r : Result Numbers Fault) → sealing_limits memory operations ≡ r
     → IsOk r → r ≡ Ok (numbers memory operations)
 allowed_limits _ _ (Ok v) same _ =
@@ -63,16 +67,16 @@ allowed_limits _ _ (Err e) _ ok = absurd (true≢false (sym ok))
 pub unsealed_is_unencrypted : (keynum secret : List ℕ) → unencrypted_key (unsealed_key keynum secret)
     ≡ Ok (unsealed_key keynum secret)
 unfolding unsealed_key
-unsealed_is_unencrypted _ _ = unencrypted_taken _ refl refl
+unsealed_is_unencrypted _ _ = unencrypted_if _ refl refl
 
 no_mismatch : (xs : List ℕ) → not (bytes_eq xs xs) ≡ false
 no_mismatch xs = let same : bytes_eq xs xs ≡ true = (bytes_eq-Decides xs xs).1 refl in rw same refl
 
 -- A key that is to be encrypted is not encrypted yet: its checksum is the right one.
-pub opened_before : (keynum secret salt : List ℕ) (operations memory : ℕ)
+pub not_encrypted_yet : (keynum secret salt : List ℕ) (operations memory : ℕ)
     → is_encrypted (key_to_seal keynum secret salt operations memory) ≡ false
 unfolding key_to_seal unsealed_key
-opened_before keynum secret _ _ _ = no_mismatch (checksum_of (unsealed_key keynum secret))
+not_encrypted_yet keynum secret _ _ _ = no_mismatch (checksum_of (unsealed_key keynum secret))
 
 -- The text of an unencrypted key satisfies IsMadeText.
 pub made_unsealed : (keynum secret comment text : List ℕ) (s : Sealing) (sk : SecretKeyRecord)
@@ -98,7 +102,7 @@ module _ (keynum secret salt password : List ℕ) (operations memory : ℕ) (som
 
   named : key_limits sk ≡ Ok v
   unfolding key_xor key_to_seal
-  named = limits_named sk _ _ some more (ap (λ k. k.operations_limit) sealed)
+  named = limits_of_fields sk _ _ some more (ap (λ k. k.operations_limit) sealed)
       (ap (λ k. k.memory_limit) sealed) ∙ allowed
 
   restored : (xored_key sk password).checksum ≡ checksum_of (xored_key sk password)
@@ -108,7 +112,7 @@ module _ (keynum secret salt password : List ℕ) (operations memory : ℕ) (som
   pub sealed_opens : (bound : Option ℕ)
       → and_then (sealed_by_scrypt sk) (λ k. open_sealed k password bound)
       ≡ require (is_within bound v.p) WorkTooHigh (Ok (xored_key sk password))
-  sealed_opens bound = ap (λ r. and_then r (λ k. open_sealed k password bound)) (sealed_taken sk kdf)
+  sealed_opens bound = ap (λ r. and_then r (λ k. open_sealed k password bound)) (sealed_if sk kdf)
       ∙ opened_within sk _ _ v named restored
 
   pub text_opens : (text : List ℕ) → read_secret_key text ≡ Ok sk
@@ -169,6 +173,7 @@ pair_of_parts _ seed keynum _ _ lengths public same_keynum same_secret opened = 
   keynum = ap (λ k. k.keynum) public ∙ sym same_keynum;
 }
 
+-- The two keys of an unencrypted pair belong together.
 pub unsealed_pair : (public_of : List ℕ → List ℕ) (seed keynum : List ℕ) (pk : PublicKeyRecord)
     (sk : SecretKeyRecord) → AreSeedAndKeynum seed keynum
     → pk ≡ public_key_of public_of seed keynum → sk ≡ unsealed_key keynum (secret_of public_of seed)
@@ -202,7 +207,7 @@ sealed_pair public_of password z pk sk pair =
       pair = pair_of_parts _ _ _ pk _ pair.lengths
           sealed.public (ap (λ k. k.keynum) sealed.opened) (ap (λ k. k.secret) sealed.opened)
           (ap (λ k. is_encrypted k) sealed.opened
-          ∙ opened_before pair.keynum secret pair.salt 1048576 33554432);
+          ∙ not_encrypted_yet pair.keynum secret pair.salt 1048576 33554432);
       texts = text_opens pair.keynum secret pair.salt password 1048576 33554432 (omega arith) (omega arith)
           sk sealed.secret sealed.opened _ default_limits;
     }

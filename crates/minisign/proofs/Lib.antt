@@ -3,7 +3,7 @@ pub mod Common
 pub mod SealedParts
 pub mod SealingLimits
 pub mod RecordFields
-pub mod Beginnings
+pub mod ErrorsAndPrefixes
 pub mod Copies
 pub mod SignedBoxes
 pub mod Base64Texts

@@ -1,6 +1,6 @@
--- Lemmas about decrypting secret keys, and about the key that a text gives: the functions and the
--- relations agree; how decryption ends, with a given password or with one that is asked for; and
--- which key a text gives for signing.
+-- Lemmas about decrypting secret keys, and about the key that a text gives. The functions agree with the
+-- relations. Other lemmas are about the result of decryption with a given or a typed password, and about the
+-- key that a text gives for signing.
 use Rattle.std.proofs.Common.{◌≡◌, ℕ, Bool, true, false, not, bytes_eq, List, Option, None, refl, sym, ap}
 use Rattle.std.proofs.Common.{◌∙◌, is_ok, true≢false, Result, Ok, Err, IsOk, ◌⊎◌, Some, IfOk, IfErr, inl, inr}
 use Rattle.std.proofs.Common.{[], IfSome, option_map}
@@ -25,14 +25,14 @@ no_fault (Ok v) _ = refl
 no_fault (Err e) ok = absurd (true≢false (sym ok))
 
 -- A key is accepted as encrypted with scrypt exactly if it names scrypt.
-sealed_held : (k l : SecretKeyRecord) → sealed_by_scrypt k ≡ Ok l → (k ≡ l) × (k.kdf ≡ scrypt_kdf)
-sealed_held k l h =
+sealed_only_if : (k l : SecretKeyRecord) → sealed_by_scrypt k ≡ Ok l → (k ≡ l) × (k.kdf ≡ scrypt_kdf)
+sealed_only_if k l h =
     let first = passed _ _ _ l h in
     let second = passed _ _ _ l first.1 in
     (same_value k l second.1, (bytes_eq-Decides _ _).0 second.0)
 
-pub sealed_taken : (k : SecretKeyRecord) → k.kdf ≡ scrypt_kdf → sealed_by_scrypt k ≡ Ok k
-sealed_taken k h = rw h refl
+pub sealed_if : (k : SecretKeyRecord) → k.kdf ≡ scrypt_kdf → sealed_by_scrypt k ≡ Ok k
+sealed_if k h = rw h refl
 
 -- If two checks succeed, the result is their value.
 both_passed : {V : Type 0} (a b : Bool) (e f : NamedFault) (v : V)
@@ -50,19 +50,19 @@ pub unencrypted_passed : (k : SecretKeyRecord) → Ok tt ≡ without_value (unen
 unencrypted_passed k h = both_passed _ _ _ _ k h
 
 -- A key that is returned after the checksum test is unchanged, and its checksum matches.
-restored_held : (k v : SecretKeyRecord) → restored_key k ≡ Ok v → (k ≡ v) × (k.checksum ≡ checksum_of k)
-restored_held k v h =
+restored_only_if : (k v : SecretKeyRecord) → restored_key k ≡ Ok v → (k ≡ v) × (k.checksum ≡ checksum_of k)
+restored_only_if k v h =
     let (same, is) = passed _ _ _ v h in
     (same_value k v is, (bytes_eq-Decides _ _).0 same)
 
 -- If an encrypted key decrypts, its limits are allowed and within the bound, and its checksum matches
 -- after decryption.
-opening_held : (k v : SecretKeyRecord) (password : List ℕ) (bound : Option ℕ) → open_sealed k password bound
+opened_only_if : (k v : SecretKeyRecord) (password : List ℕ) (bound : Option ℕ) → open_sealed k password bound
     ≡ Ok v
     → IsOk (allowed_work k bound) × (xored_key k password ≡ v) × (v.checksum ≡ checksum_of v)
-opening_held k v _ _ h =
+opened_only_if k v _ _ h =
     let (w, work, restored) = read_before _ _ v h in
-    let (is, checksum) = restored_held _ v restored in
+    let (is, checksum) = restored_only_if _ v restored in
     (ap is_ok work, is, rw is at checksum)
 
 -- If the limits are allowed and the checksum matches, a key decrypts for each bound that its p does
@@ -80,6 +80,7 @@ opened_within k password bound v allowed h =
     by_cases true = refl
     by_cases false = refl
 
+-- If the work is allowed and the checksum matches after decryption, the key decrypts.
 pub opened_from_parts : (k v : SecretKeyRecord) (password : List ℕ) (bound : Option ℕ) (w : Numbers)
     → v ≡ xored_key k password
     → allowed_work k bound ≡ Ok w → restored_key v ≡ Ok v → open_sealed k password bound ≡ Ok v
@@ -92,16 +93,19 @@ pub sealed_text : (text : List ℕ) (k : SecretKeyRecord) (r : Result SecretKeyR
     ≡ r
 sealed_text _ k r read of_key = ap (λ x. and_then x sealed_by_scrypt) read ∙ of_key
 
+-- A text that does not parse as a secret key has the same error when an encrypted key is expected.
 pub unread_text : (text : List ℕ) (e : Fault) → read_secret_key text ≡ Err e
     → and_then (read_secret_key text) sealed_by_scrypt ≡ Err e
 unread_text _ e read = ap (λ x. and_then x sealed_by_scrypt) read
 
+-- If a text contains a key that is encrypted with scrypt, decrypting the text is decrypting this key.
 pub open_text : (text password : List ℕ) (bound : Option ℕ) (k : SecretKeyRecord)
     → and_then (read_secret_key text) sealed_by_scrypt ≡ Ok k → open_key text password bound
     ≡ open_sealed k password bound
 unfolding open_key
 open_text _ password bound k read = ap (λ x. and_then x (λ l. open_sealed l password bound)) read
 
+-- If a text contains no key that is encrypted with scrypt, decrypting it fails with the same error.
 pub unopened_text : (text password : List ℕ) (bound : Option ℕ) (e : Fault)
     → and_then (read_secret_key text) sealed_by_scrypt ≡ Err e → open_key text password bound ≡ Err e
 unfolding open_key
@@ -113,16 +117,15 @@ unfolding open_key
 text_opens _ password bound v h =
     let (k, sealed, opened) = read_before _ _ v h in
     let (l, read, taken) = read_before _ _ k sealed in
-    let (same, kdf) = sealed_held l k taken in
-    let (allowed, is, restored) = opening_held l v _ _
+    let (same, kdf) = sealed_only_if l k taken in
+    let (allowed, is, restored) = opened_only_if l v _ _
     (ap (λ m. open_sealed m password bound) same ∙ opened) in
     record {
       sealed = l;
       read = ((read_as _).value l).0 read;
       kdf = kdf;
       allowed = allowed;
-      key =
-          sym is;
+      key = sym is;
       restored = restored;
     }
 
@@ -135,22 +138,23 @@ opens_text : (text password : List ℕ) (bound : Option ℕ) (v : SecretKeyRecor
 opens_text text _ _ v h =
     let read = ((read_as text).value h.sealed).1 h.read in
     let (w, work) = some_work _ h.allowed in
-    open_text _ _ _ _ (sealed_text _ _ _ read (sealed_taken _ h.kdf))
+    open_text _ _ _ _ (sealed_text _ _ _ read (sealed_if _ h.kdf))
     ∙ opened_from_parts _ v _ _ w h.key work (rw ((bytes_eq-Decides _ _).1 h.restored) refl)
 
+-- The function open_key agrees with the relation IsOpened.
 pub opened_as : (text password : List ℕ) (bound : Option ℕ)
     → IsReading (IsOpened text password bound) (open_key text password bound)
 opened_as _ _ _ = record { value = λ v. (text_opens _ _ _ v, opens_text _ _ _ v) }
 
 -- A key is accepted as never encrypted exactly if it names no key derivation and its checksum matches.
-pub unencrypted_taken : (k : SecretKeyRecord) → k.kdf ≡ no_kdf → k.checksum ≡ checksum_of k
+pub unencrypted_if : (k : SecretKeyRecord) → k.kdf ≡ no_kdf → k.checksum ≡ checksum_of k
     → unencrypted_key k ≡ Ok k
-unencrypted_taken k none same =
+unencrypted_if k none same =
     rw ((bytes_eq-Decides k.kdf _).1 none, (bytes_eq-Decides k.checksum _).1 same) refl
 
-unencrypted_held : (k l : SecretKeyRecord) → unencrypted_key k ≡ Ok l → (k ≡ l) × (k.kdf ≡ no_kdf)
+unencrypted_only_if : (k l : SecretKeyRecord) → unencrypted_key k ≡ Ok l → (k ≡ l) × (k.kdf ≡ no_kdf)
     × (k.checksum ≡ checksum_of k)
-unencrypted_held k l h =
+unencrypted_only_if k l h =
     let kdf = passed _ _ _ l h in
     let checksum = passed _ _ _ l kdf.1 in (
       same_value k l checksum.1,
@@ -163,6 +167,7 @@ pub unencrypted_text : (text : List ℕ) (k : SecretKeyRecord) (r : Result Secre
 unfolding read_unencrypted_key
 unencrypted_text _ k r read of_key = ap (λ x. and_then x unencrypted_key) read ∙ of_key
 
+-- A text that does not parse as a secret key has the same error when an unencrypted key is expected.
 pub unread_unencrypted : (text : List ℕ) (e : Fault) → read_secret_key text ≡ Err e
     → read_unencrypted_key text ≡ Err e
 unfolding read_unencrypted_key
@@ -173,18 +178,19 @@ text_is_unencrypted : (text : List ℕ) (v : SecretKeyRecord) → read_unencrypt
 unfolding read_unencrypted_key
 text_is_unencrypted _ v h =
     let (k, read, taken) = read_before _ _ v h in
-    let (same, kdf, checksum) = unencrypted_held k v taken in
+    let (same, kdf, checksum) = unencrypted_only_if k v taken in
     record {
       read = ((read_as _).value v).0 (read ∙ ap Ok same);
       kdf = ap (λ l. l.kdf) (sym same) ∙ kdf;
       checksum = rw same at checksum;
     }
 
+-- The function read_unencrypted_key agrees with the relation IsUnencryptedText.
 pub unencrypted_as : (text : List ℕ) → IsReading (IsUnencryptedText text) (read_unencrypted_key text)
 unencrypted_as _ = record {
   value = λ v. (
     text_is_unencrypted _ v,
-    λ h. unencrypted_text _ v _ (((read_as _).value v).1 h.read) (unencrypted_taken v h.kdf h.checksum),
+    λ h. unencrypted_text _ v _ (((read_as _).value v).1 h.read) (unencrypted_if v h.kdf h.checksum),
   );
 }
 

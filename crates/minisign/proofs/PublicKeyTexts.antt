@@ -13,8 +13,9 @@ use Rattle.minisign.specs.KeyTexts.{PublicKeyText, BarePublicKey, decoded_key, k
 use Rattle.minisign.specs.KeyTexts.{public_key_text, read_bare_public_key, read_public_key}
 use Rattle.minisign.proofs.Base64Texts.{bytes_read, is_read, length_base64, reads}
 use Rattle.minisign.proofs.WrittenLines.{AllGraphic, graphic_base64, graphic_key_id, trim_graphic, IsOneLine}
-use Rattle.minisign.proofs.WrittenLines.{AllShown, lines_line, lines_last, each_append, shown_codes}
-use Rattle.minisign.proofs.WrittenLines.{shown_graphic, shown_one_line}
+use Rattle.minisign.proofs.WrittenLines.{LacksControls, lines_line, lines_last, each_append}
+use Rattle.minisign.proofs.WrittenLines.{lacks_controls_codes, lacks_controls_graphic}
+use Rattle.minisign.proofs.WrittenLines.{one_line_without_controls}
 use Rattle.minisign.proofs.ReadTexts.{passed}
 use Rattle.minisign.proofs.RecordFields.{joined_fields, one_public_key}
 
@@ -42,8 +43,7 @@ unfoldable key_in : List ℕ → PublicKeyRecord
 key_in bytes = record {
   algorithm = take 2 bytes;
   keynum = take 8 (drop 2 bytes);
-  key =
-      take 32 (drop 8 (drop 2 bytes));
+  key = take 32 (drop 8 (drop 2 bytes));
 }
 
 key_in_front : (bytes : List ℕ) → 42 ≤ length bytes → ReadsPublicKey bytes (key_in bytes)
@@ -79,8 +79,7 @@ decoded_is_encoded fault text k h =
     record {
       bytes = base64_bytes text;
       base64 = reads _ base64.0;
-      reads =
-          subst (ReadsPublicKey (base64_bytes text)) same (key_in_front _ (leb-true 42 _ long.0));
+      reads = subst (ReadsPublicKey (base64_bytes text)) same (key_in_front _ (leb-true 42 _ long.0));
     }
 
 -- A text parses to a key if the relation holds for this key.
@@ -107,6 +106,7 @@ read_text : (text : List ℕ) (k : PublicKeyRecord) → read_public_key text ≡
 unfolding read_public_key
 read_text _ k h = read_lines _ _ k refl h
 
+-- The function read_public_key agrees with the grammar PublicKeyText.
 pub read_as : (text : List ℕ) → IsReading (PublicKeyText text) (read_public_key text)
 read_as _ = record { value = λ k. (read_text _ k, text_is_read _ k) }
 
@@ -121,6 +121,7 @@ pub bare_is_read : (text : List ℕ) (k : PublicKeyRecord) → BarePublicKey tex
 unfolding read_bare_public_key
 bare_is_read _ k h = rw (eq-eqb _ 56 h.trimmed_length) (encoded_is_decoded _ _ k h.key)
 
+-- A bare base64 text that parses to a key satisfies the grammar BarePublicKey.
 pub read_bare : (text : List ℕ) (k : PublicKeyRecord) → read_bare_public_key text ≡ Ok k
     → BarePublicKey text k
 unfolding read_bare_public_key
@@ -128,26 +129,28 @@ read_bare _ k h =
     let long = passed _ _ _ k h in
     record {
       trimmed_length = eqb-true _ 56 long.0;
-      key =
-          decoded_is_encoded _ _ k long.1;
+      key = decoded_is_encoded _ _ k long.1;
     }
 
+-- A bare base64 text is rejected if its trimmed length is not 56.
 pub other_bare_length : (text : List ℕ) → length (trim text) ≢ 56 → read_bare_public_key text
     ≡ Err (Named BarePublicKeyLength)
 unfolding read_bare_public_key
 other_bare_length _ differs = rw (ne_eqb _ 56 differs) refl
 
+-- A bare base64 text of trimmed length 56 is decoded.
 pub bare_length : (text : List ℕ) → length (trim text) ≡ 56 → read_bare_public_key text
     ≡ decoded_key BarePublicKeyNotBase64 text
 unfolding read_bare_public_key
 bare_length _ same = rw (eq-eqb _ 56 same) refl
 
+-- The function read_bare_public_key agrees with the grammar BarePublicKey.
 pub bare_read_as : (text : List ℕ) → IsReading (BarePublicKey text) (read_bare_public_key text)
 bare_read_as _ = record { value = λ k. (read_bare _ k, bare_is_read _ k) }
 
-shown_label : AllShown (untrusted_comment_label ++ public_key_label)
+key_label_lacks_controls : LacksControls (untrusted_comment_label ++ public_key_label)
 unfolding untrusted_comment_label public_key_label
-shown_label = shown_codes (codes "untrusted comment: minisign public key: ") refl
+key_label_lacks_controls = lacks_controls_codes (codes "untrusted comment: minisign public key: ") refl
 
 -- The base64 of a key parses to the key.
 pub written_base64 : (k : PublicKeyRecord) (text bytes : List ℕ) → IsBase64Of text bytes
@@ -164,15 +167,16 @@ written_base64 k text bytes base64 same reads =
 
 -- The text that is written for a key parses to the key.
 module _ (k : PublicKeyRecord) (bare : BarePublicKey (base64_of (public_key_bytes k)) k) where
-  pub graphic : AllGraphic (base64_of (public_key_bytes k))
-  graphic = graphic_base64 _
+  pub base64_is_graphic : AllGraphic (base64_of (public_key_bytes k))
+  base64_is_graphic = graphic_base64 _
       (front_bytes (public_key_bytes k) _ (rw bare.key.reads.front.1 at bare.key.base64.each))
 
-  pub stays : trim (base64_of (public_key_bytes k)) ≡ base64_of (public_key_bytes k)
-  stays = trim_graphic _ graphic
+  pub trimmed_unchanged : trim (base64_of (public_key_bytes k)) ≡ base64_of (public_key_bytes k)
+  trimmed_unchanged = trim_graphic _ base64_is_graphic
 
   first_line : IsOneLine (untrusted_comment_label ++ public_key_label ++ key_id_text k.keynum)
-  first_line = shown_one_line _ (each_append _ _ _ shown_label (shown_graphic _ (graphic_key_id _)))
+  first_line = one_line_without_controls _
+      (each_append _ _ _ key_label_lacks_controls (lacks_controls_graphic _ (graphic_key_id _)))
 
   pub written_text : read_public_key (public_key_text k) ≡ Ok k
   unfolding untrusted_comment_label
@@ -182,9 +186,9 @@ module _ (k : PublicKeyRecord) (bare : BarePublicKey (base64_of (public_key_byte
     later = [];
     cut = lines_line _ _ first_line
         ∙ ap (λ l. (untrusted_comment_label ++ public_key_label ++ key_id_text k.keynum) ∷ l)
-        (lines_last _ (shown_one_line _ (shown_graphic _ graphic)));
-    encoded_length = ap length (sym stays) ∙ bare.trimmed_length;
-    key = rw (sym stays) at bare.key;
+        (lines_last _ (one_line_without_controls _ (lacks_controls_graphic _ base64_is_graphic)));
+    encoded_length = ap length (sym trimmed_unchanged) ∙ bare.trimmed_length;
+    key = rw (sym trimmed_unchanged) at bare.key;
   })
 
 -- The text that `to_box` writes, with its labels spelled out, is public_key_text of the key.

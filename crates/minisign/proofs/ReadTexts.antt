@@ -19,6 +19,7 @@ read_before (Err e) more w h = cc h
 pub same_value : {V : Type 0} (v w : V) → ◌≡◌ {A = Result V Fault} (Ok v) (Ok w) → v ≡ w
 same_value v w h = cc h
 
+-- If a result without its value is an error, the result is this error.
 pub same_end : {V : Type 0} (r : Result V Fault) (e : Fault) → Err e ≡ without_value r → r ≡ Err e
 same_end (Ok v) e h = cc h
 same_end (Err f) e h = cc h

@@ -22,6 +22,7 @@ limits_numbers : (n : ℕ) (w v : Numbers) → limits w n ≡ Ok v → w ≡ v
 unfolding limits
 limits_numbers n w v h = both_passed _ _ _ v _ _ h
 
+-- Limits that are allowed give the parameters that `numbers` computes.
 pub sealing_numbers : (memlimit opslimit : ℕ) (v : Numbers) → sealing_limits memlimit opslimit ≡ Ok v
     → numbers memlimit opslimit ≡ v
 sealing_numbers _ _ v h = limits_numbers 20 _ v (one_passed _ _ v _ h)

@@ -67,6 +67,7 @@ key_in_front bytes long = record {
   );
 }
 
+-- Bytes that begin with the record of a key parse to this key.
 pub bytes_are_read : (bytes : List ℕ) (k : SecretKeyRecord) → ReadsSecretKey bytes k
     → read_secret_key_bytes bytes ≡ Ok k
 bytes_are_read _ k h =
@@ -80,6 +81,7 @@ read_bytes bytes k h =
     let long = passed _ _ _ k h in
     rw (same_value _ k long.1) at (key_in_front bytes (leb-true 158 _ long.0))
 
+-- The function read_secret_key_bytes agrees with the relation ReadsSecretKey.
 pub bytes_read_as : (bytes : List ℕ) → IsReading (ReadsSecretKey bytes) (read_secret_key_bytes bytes)
 bytes_read_as _ = record { value = λ k. (read_bytes _ k, bytes_are_read _ k) }
 
@@ -122,6 +124,7 @@ read_text : (text : List ℕ) (k : SecretKeyRecord) → read_secret_key text ≡
 unfolding read_secret_key
 read_text _ k h = read_lines _ _ k refl h
 
+-- The function read_secret_key agrees with the grammar SecretKeyText.
 pub read_as : (text : List ℕ) → IsReading (SecretKeyText text) (read_secret_key text)
 read_as _ = record { value = λ k. (read_text _ k, text_is_read _ k) }
 

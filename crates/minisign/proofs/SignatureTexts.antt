@@ -18,10 +18,11 @@ use Rattle.minisign.specs.Texts.{untrusted_comment_label, line}
 use Rattle.minisign.specs.SignatureText.{AreOneLine, AreReadBack, SignatureText, SignatureTextRecord, box_of}
 use Rattle.minisign.specs.SignatureText.{comments_read_back, read_signature, read_signature_box}
 use Rattle.minisign.specs.SignatureText.{signature_in_lines, signature_text, trusted_comment_label, first_64}
-use Rattle.minisign.proofs.Base64Texts.{bytes_read, is_read, reads, short_of, length_base64}
-use Rattle.minisign.proofs.WrittenLines.{AllGraphic, graphic_base64, trim_graphic, AllShown, labelled}
+use Rattle.minisign.proofs.Base64Texts.{bytes_read, is_read, reads, base64_of_fewer_bytes, length_base64}
+use Rattle.minisign.proofs.WrittenLines.{AllGraphic, graphic_base64, trim_graphic, LacksControls, labelled}
 use Rattle.minisign.proofs.WrittenLines.{labelled_one_line, lines_labelled, lines_line, lines_last}
-use Rattle.minisign.proofs.WrittenLines.{shown_codes, shown_graphic, shown_one_line, strip_none, trimmed_end}
+use Rattle.minisign.proofs.WrittenLines.{lacks_controls_codes, lacks_controls_graphic}
+use Rattle.minisign.proofs.WrittenLines.{one_line_without_controls, strip_none, trimmed_end}
 use Rattle.minisign.proofs.ReadTexts.{passed}
 use Rattle.minisign.proofs.RecordFields.{joined_fields, one_signature, stored_algorithm, stored_length}
 use Rattle.minisign.specs.KeyTexts.{decoded_key}
@@ -35,6 +36,7 @@ begins_with : (line label : List ℕ) → starts_with eqb line label ≡ true
     → line ≡ label ++ drop (length label) line
 begins_with _ _ = (starts_is Decides-eqb _ _ _ refl).0
 
+-- A line that does not begin with a label fails the test for it.
 pub begins_not : (line label : List ℕ) → ((rest : List ℕ) → line ≢ label ++ rest) → starts_with eqb line label
     ≡ false
 begins_not _ _ h = false_from_ne_true _ (λ t. h _ (begins_with _ _ t))
@@ -43,6 +45,7 @@ begins_not _ _ h = false_from_ne_true _ (λ t. h _ (begins_with _ _ t))
 abbrev is_known_algorithm : List ℕ → Bool
 is_known_algorithm a = bytes_eq a legacy_algorithm || bytes_eq a prehashed_algorithm
 
+-- The test for known algorithms accepts the known algorithms.
 pub known_is_accepted : (a : List ℕ) → IsKnownAlgorithm a → is_known_algorithm a ≡ true
 known_is_accepted a (inl e) = or_left _ _ ((bytes_eq-Decides a _).1 e)
 known_is_accepted a (inr e) = or_right _ _ ((bytes_eq-Decides a _).1 e)
@@ -70,8 +73,7 @@ abbrev signature_of_bytes : List ℕ → SignatureRecord
 signature_of_bytes bytes = record {
   algorithm = take 2 bytes;
   keynum = take 8 (drop 2 bytes);
-  signature =
-      take 64 (drop 8 (drop 2 bytes));
+  signature = take 64 (drop 8 (drop 2 bytes));
 }
 
 -- Enough bytes begin with a signature.
@@ -194,8 +196,7 @@ read_lines text (a ∷ b ∷ c ∷ d ∷ later) t cut h =
       signature = record {
         bytes = bytes;
         base64 = reads _ base64.0;
-        reads =
-            signature_in_front bytes (leb-true 74 _ long.0);
+        reads = signature_in_front bytes (leb-true 74 _ long.0);
       };
       algorithm = is_known (take 2 bytes) algorithm.0;
       trusted_comment = (_, begins_with c trusted_comment_label trusted.0, refl);
@@ -206,6 +207,7 @@ read_text : (text : List ℕ) (t : SignatureTextRecord) → read_signature text 
 unfolding read_signature
 read_text _ t h = read_lines _ _ t refl h
 
+-- The function read_signature agrees with the grammar SignatureText.
 pub read_as : (text : List ℕ) → IsReading (SignatureText text) (read_signature text)
 read_as _ = record { value = λ t. (read_text _ t, text_is_read _ t) }
 
@@ -233,21 +235,21 @@ spelled_text s c u b t g same_u same_b same_t same_g =
     ∙ ap (λ r. encoded ++ (10 ∷ r)) (labelled (codes "trusted comment: ") c.trusted last))
     ))
 
-pub shown_untrusted : AllShown untrusted_comment_label
+pub untrusted_label_lacks_controls : LacksControls untrusted_comment_label
 unfolding untrusted_comment_label
-shown_untrusted = shown_codes (codes "untrusted comment: ") refl
+untrusted_label_lacks_controls = lacks_controls_codes (codes "untrusted comment: ") refl
 
-pub some_untrusted : 0 < length untrusted_comment_label
+pub untrusted_label_not_empty : 0 < length untrusted_comment_label
 unfolding untrusted_comment_label
-some_untrusted = lit< tt
+untrusted_label_not_empty = lit< tt
 
-shown_trusted : AllShown trusted_comment_label
+trusted_label_lacks_controls : LacksControls trusted_comment_label
 unfolding trusted_comment_label
-shown_trusted = shown_codes (codes "trusted comment: ") refl
+trusted_label_lacks_controls = lacks_controls_codes (codes "trusted comment: ") refl
 
-some_trusted : 0 < length trusted_comment_label
+trusted_label_not_empty : 0 < length trusted_comment_label
 unfolding trusted_comment_label
-some_trusted = lit< tt
+trusted_label_not_empty = lit< tt
 
 -- A text that was written parses to its signature and comments, except for a carriage return at the
 -- end of the untrusted comment.
@@ -266,14 +268,14 @@ module _ (s : SignatureRecord) (c : CommentsRecord)
       ≡ (untrusted_comment_label ++ strip_carriage_return c.untrusted) ∷ base64_of (signature_bytes s)
       ∷ (trusted_comment_label ++ c.trusted) ∷ base64_of c.signature ∷ []
   written_lines =
-      lines_labelled _ _ _ shown_untrusted some_untrusted one.untrusted_one_line
+      lines_labelled _ _ _ untrusted_label_lacks_controls untrusted_label_not_empty one.untrusted_one_line
       ∙ ap (λ l. (untrusted_comment_label ++ strip_carriage_return c.untrusted) ∷ l)
-      (lines_line _ _ (shown_one_line _ (shown_graphic _ graphic))
+      (lines_line _ _ (one_line_without_controls _ (lacks_controls_graphic _ graphic))
       ∙ ap (λ l. base64_of (signature_bytes s) ∷ l)
-      (lines_line _ _ (labelled_one_line _ _ shown_trusted some_trusted
+      (lines_line _ _ (labelled_one_line _ _ trusted_label_lacks_controls trusted_label_not_empty
       one.trusted_one_line (trimmed_end _ one.trusted_trimmed))
       ∙ ap (λ l. (trusted_comment_label ++ c.trusted) ∷ l)
-      (lines_last _ (shown_one_line _ (shown_graphic _ graphic_comment)))))
+      (lines_last _ (one_line_without_controls _ (lacks_controls_graphic _ graphic_comment)))))
 
   pub written_text : read_signature_box (signature_text s c)
       ≡ Ok (record { signature = s; comments = Some (comments_read_back c) })
@@ -344,7 +346,7 @@ pub short_front : (text room bytes : List ℕ) (n cap m : ℕ) → IsBase64Of te
 short_front text room bytes n cap m base64 count fits least short =
     let same = length-take-le n _ fits in
     let few : length bytes < m = omega (arith, same, count, short) in
-    short_of _ _ _ m base64 refl few
+    base64_of_fewer_bytes _ _ _ m base64 refl few
 
 -- The front of the decoded bytes parses like all of them.
 pub front_read : (fault : NamedFault) (text room bytes : List ℕ) (n : ℕ) (r : Result PublicKeyRecord Fault)
@@ -365,6 +367,7 @@ few_bytes bytes few = ap (λ b. cond b (Some (take 64 bytes)) None) (lt-leb 64 _
 enough_bytes : (bytes : List ℕ) → 64 ≤ length bytes → first_64 bytes ≡ Some (take 64 bytes)
 enough_bytes bytes enough = ap (λ b. cond b (Some (take 64 bytes)) None) (le-leb 64 _ enough)
 
+-- first_64 of the at most 66 bytes that are decoded is first_64 of all bytes.
 pub front_64 : (bytes room : List ℕ) (n : ℕ) → n ≡ min (length bytes) 66 → n ≤ length room
     → take n room ≡ take n bytes → first_64 (take n room) ≡ first_64 bytes
 front_64 bytes room n count fits front =

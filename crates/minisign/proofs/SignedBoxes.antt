@@ -90,8 +90,7 @@ abbrev pub with_signature : ChosenComments → List ℕ → CommentsRecord
 with_signature chosen global = record {
   untrusted = chosen.untrusted;
   trusted = chosen.trusted;
-  signature =
-      global;
+  signature = global;
 }
 
 -- If writing a box with these comments succeeds, the text is signature_text of the box, and is read back
@@ -106,20 +105,21 @@ pub written_text : {T : Type 0} (bytes : T → List ℕ) (r : Result T Fault) (x
     → IfOk r (λ t. (bytes t ≡ signature_text x.signature (with_signature chosen global))
     × (AreOneLine chosen.untrusted chosen.trusted → read_signature_box (bytes t) ≡ Ok (box_read_back x)))
 written_text _ (Err e) x _ _ _ _ _ = tt
-written_text _ (Ok t) x _ _ both written back = (
-  rw both at written,
-  λ one. back (subst (λ (o : Option CommentsRecord). IfSome o (λ c. AreOneLine c.untrusted c.trusted))
-      (sym both) one),
+written_text _ (Ok t) x _ _ has_comments written reads_back = (
+  rw has_comments at written,
+  λ are_one_line. reads_back
+      (subst (λ (o : Option CommentsRecord). IfSome o (λ c. AreOneLine c.untrusted c.trusted))
+      (sym has_comments) are_one_line),
 )
 
 -- A box that was read back is valid for every message for which the written box was valid.
-pub vouched_back : (accepts : Verifier) (key keynum message : List ℕ) (x : SignatureBoxRecord)
+pub read_back_box_vouches : (accepts : Verifier) (key keynum message : List ℕ) (x : SignatureBoxRecord)
     (chosen : ChosenComments) (global : List ℕ)
     → x.comments ≡ Some (with_signature chosen global)
     → VouchesUnderEachKey accepts key keynum message x
     → VouchesUnderEachKey accepts key keynum message (box_read_back x)
-vouched_back accepts _ _ message x _ _ both h = λ pk legacy same_key same_keynum.
+read_back_box_vouches accepts _ _ message x _ _ has_comments vouches = λ pk legacy same_key same_keynum.
     subst (λ (o : Option CommentsRecord). judge accepts pk (box_read_back (record x { comments = o })) message
-    legacy ≡ Ok tt) (sym both)
+    legacy ≡ Ok tt) (sym has_comments)
     (subst (λ (o : Option CommentsRecord). judge accepts pk (record x { comments = o }) message legacy
-    ≡ Ok tt) both (h pk legacy same_key same_keynum))
+    ≡ Ok tt) has_comments (vouches pk legacy same_key same_keynum))

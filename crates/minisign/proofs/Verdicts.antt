@@ -1,5 +1,5 @@
--- Lemmas about verdicts: the functions judge and verdict agree with the records of conditions. Also
--- what a verdict does not depend on.
+-- Lemmas about verdicts: the functions judge and verdict agree with the records of conditions, and some parts
+-- of keys and signatures do not change a verdict.
 use Rattle.std.proofs.Common.{◌≡◌, ◌↔◌, ◌||◌, ℕ, Bool, true, false, List, length, refl, sym, ap, subst, ◌∙◌}
 use Rattle.std.proofs.Common.{inl, inr, ⊎_elim, [], Option, None, Some, take, min, nat_le, arith}
 use Rattle.std.proofs.Common.{Result, Ok, Err, length-take, option_map}
@@ -18,14 +18,17 @@ use Rattle.minisign.proofs.ReadTexts.{passed, read_before, read_value}
 
 -- == Parsing in two steps ==
 
-pub mapped_of : {V W : Type 0} (f : V → W) (r : Result V Fault) (w : W) → map_ok f r ≡ Ok w
+-- If map_ok gives a value, its argument is a value that f maps to it.
+pub value_before_map : {V W : Type 0} (f : V → W) (r : Result V Fault) (w : W) → map_ok f r ≡ Ok w
     → (v : V) × (r ≡ Ok v) × (f v ≡ w)
-mapped_of f (Ok v) w h = (v, refl, cc h)
-mapped_of f (Err e) w h = cc h
+value_before_map f (Ok v) w h = (v, refl, cc h)
+value_before_map f (Err e) w h = cc h
 
-pub unmapped : {V W : Type 0} (f : V → W) (r : Result V Fault) (e : Fault) → Err e ≡ map_ok f r → r ≡ Err e
-unmapped f (Ok v) e h = cc h
-unmapped f (Err d) e h = cc h
+-- If map_ok gives an error, its argument is this error.
+pub error_before_map : {V W : Type 0} (f : V → W) (r : Result V Fault) (e : Fault) → Err e ≡ map_ok f r
+    → r ≡ Err e
+error_before_map f (Ok v) e h = cc h
+error_before_map f (Err d) e h = cc h
 
 -- == The function judge ==
 
@@ -68,6 +71,7 @@ module _ (accepts : Verifier) (pk : PublicKeyRecord) (x : SignatureBoxRecord) (m
       (or_right (is_prehashed x.signature) legacy) v.allowed in
       rw (same, allowed, v.signed, v.comment_signed) refl
 
+  -- The function judge accepts a box exactly if Vouches holds.
   pub judge_decided : (judge accepts pk x message legacy ≡ Ok tt) ↔ Vouches accepts pk x message legacy
   judge_decided = (judged_vouches tt, vouches_judged)
 
@@ -101,12 +105,13 @@ read_both _ sig_text key _ key_read box_read =
     ap (λ k. and_then k (λ key. map_ok (λ x. (key, x)) (read_signature_box sig_text))) key_read
     ∙ ap (map_ok (λ x. (key, x))) box_read
 
+-- If two texts parse to a key and a box, each text parses.
 pub both_read : (pk_text sig_text : List ℕ) (key : PublicKeyRecord) (box : SignatureBoxRecord)
     → read_texts pk_text sig_text ≡ Ok (key, box)
     → (read_public_key pk_text ≡ Ok key) × (read_signature_box sig_text ≡ Ok box)
 both_read _ _ _ _ read =
     let (k, key_read, more) = read_before _ _ _ read in
-    let (x, box_read, same) = mapped_of _ _ _ more in (
+    let (x, box_read, same) = value_before_map _ _ _ more in (
       key_read ∙ ap (λ both. Ok both.0) same,
       box_read
           ∙ ap (λ both. Ok both.1) same,
@@ -192,7 +197,7 @@ module _ (accepts : Verifier) (pk_text sig_text message : List ℕ) (legacy : Bo
         → IsValueOrNoMemory (Ok u) (judge accepts key box message legacy)
         → IsValueOrNoMemory (Ok comment) answer
     verdict_of_success comment said u judged =
-        let (t, signature_read, same) = mapped_of _ _ _ (both_read _ _ _ box read).1 in
+        let (t, signature_read, same) = value_before_map _ _ _ (both_read _ _ _ box read).1 in
         let same_comment : t.comments.trusted ≡ comment = let is = sym (ap (map_ok trusted_of) signature_read)
         ∙ said in cc is in
         inl (sym (judged_verdict (Ok u) (read_value u _ judged) ∙ ap Ok (ap comment_of (sym same)
@@ -236,6 +241,7 @@ module _ (accepts : Verifier) (pk_text sig_text message : List ℕ) (legacy : Bo
   vouched_verdict _ v = vouching_verdict v.vouched
       ∙ ap Ok (ap (λ c. option_map_or (λ c. c.trusted) c []) v.has_comments ∙ v.trusted)
 
+  -- The function verdict agrees with the record TextsVouchWith.
   pub verdict_decided : IsReading (TextsVouchWith accepts pk_text sig_text message legacy) answer
   verdict_decided = record { value = λ comment. (vouched _, vouched_verdict _) }
 
@@ -244,7 +250,7 @@ module _ (accepts : Verifier) (pk_text sig_text message : List ℕ) (legacy : Bo
       → map_ok trusted_of (read_signature sig_text) ≡ Ok comment
       → TextsVouchWith accepts pk_text sig_text message legacy comment
   signed_comment comment v said =
-      let (t, signature_read, same) = mapped_of _ _ _ v.box_read in
+      let (t, signature_read, same) = value_before_map _ _ _ v.box_read in
       record {
         vouched = v;
         comments = t.comments;

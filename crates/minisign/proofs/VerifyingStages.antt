@@ -85,6 +85,7 @@ module _ {Step D E : Type 0} (Ends : Step → D → D → Result ⊤ E → Type 
   next_step _ _ _ between _ (Ok u) done ran = (between, done, ran)
   next_step _ _ _ between _ (Err e) done ran = inr (between, done, ran)
 
+  -- A list of one step ends as this step does.
   pub last_step : (step : Step) (old new : D) (answer : Result ⊤ E) → Ends step old new answer
       → StepsEnd Ends (step ∷ []) old new answer
   last_step _ _ new (Ok u) done = (new, done, refl)
@@ -164,19 +165,19 @@ module _ {R W O V : Type 0} (sink : SinkOf V) (v : V)
 
 -- Reading uses neither sink, and copying does not use the status. Quiet verification does not use
 -- the status either.
-reading_unsaid : (again : Bool) (message : List ℕ) → UseNoStatus (reading_stages again message)
-reading_unsaid true _ = (tt, (tt, tt))
-reading_unsaid false _ = (tt, tt)
+reading_uses_no_status : (again : Bool) (message : List ℕ) → UseNoStatus (reading_stages again message)
+reading_uses_no_status true _ = (tt, (tt, tt))
+reading_uses_no_status false _ = (tt, tt)
 
-reading_uncopied : (again : Bool) (message : List ℕ) → UseNoOutput (reading_stages again message)
-reading_uncopied true _ = (tt, (tt, tt))
-reading_uncopied false _ = (tt, tt)
+reading_uses_no_output : (again : Bool) (message : List ℕ) → UseNoOutput (reading_stages again message)
+reading_uses_no_output true _ = (tt, (tt, tt))
+reading_uses_no_output false _ = (tt, tt)
 
-copying_unsaid : (output hashed : Bool) (message second : List ℕ)
+copying_uses_no_status : (output hashed : Bool) (message second : List ℕ)
     → UseNoStatus (copying_stages output hashed message second)
-copying_unsaid false _ _ _ = tt
-copying_unsaid true true _ _ = (tt, (tt, (tt, (tt, tt))))
-copying_unsaid true false _ _ = (tt, (tt, tt))
+copying_uses_no_status false _ _ _ = tt
+copying_uses_no_status true true _ _ = (tt, (tt, (tt, (tt, tt))))
+copying_uses_no_status true false _ _ = (tt, (tt, tt))
 
 module _ {R W O : Type 0} (accepts : Verifier) (pk : PublicKeyRecord) (x : SignatureBoxRecord) (legacy : Bool)
     (reader : RereaderCall R) (status : SinkCall W) (out : SinkCall O) (e : Fault) where
@@ -184,9 +185,9 @@ module _ {R W O : Type 0} (accepts : Verifier) (pk : PublicKeyRecord) (x : Signa
       ++ (Judge accepts pk x legacy message ∷ copying_stages output (is_prehashed x.signature) message
       second))
   quiet_stages _ true _ _ =
-      (tt, (tt, (tt, copying_unsaid _ _ _ _)))
+      (tt, (tt, (tt, copying_uses_no_status _ _ _ _)))
   quiet_stages _ false _ _ =
-      (tt, (tt, copying_unsaid _ _ _ _))
+      (tt, (tt, copying_uses_no_status _ _ _ _))
 
   -- Verification that reports and copies nothing does not use the output.
   pub fails_without_output : VerifyingFails accepts pk x (options_of false false legacy) reader status out e
@@ -334,10 +335,11 @@ module _ {R W O : Type 0} (reader : RereaderCall R) (status : SinkCall W) (out :
       (ended reader status out, (inr ((said, no_new_fault), unflushed), r, o), refl)
 
 -- The stages that copy the data of a legacy signature write it from memory and flush it.
-pub kept_steps : (output : Bool) (signed : SignedData) (bytes : Vec ℕ _) (second : List ℕ) → output ≡ true
+pub copying_from_memory : (output : Bool) (signed : SignedData) (bytes : Vec ℕ _) (second : List ℕ)
+    → output ≡ true
     → signed ≡ Message bytes
     → Put bytes.items ∷ Flush ∷ [] ≡ held_copy_stages output signed second
-kept_steps _ _ _ _ is_requested is = rw (is_requested, is) refl
+copying_from_memory _ _ _ _ is_requested is = rw (is_requested, is) refl
 
 -- The effects of a call after it has copied the data. `mid` is its reader after the data was read, before it
 -- is read again for the copy.
@@ -414,7 +416,8 @@ module _ (accepts : Verifier) (pk : PublicKeyRecord) (x : SignatureBoxRecord) (l
                 (second_copy_stages (blake2b_digest 64 message) second) (begun reader no_sink out)
                 (record { reader = mid; status = tt; out = out.old }) (ended reader no_sink out) (Ok tt)
                 (beside_output out.sink out.old (record reader { new = mid }) no_sink no_sink
-                (reading_stages true message) (Ok tt) (reading_uncopied true message) (rw hashed at read))
+                (reading_stages true message) (Ok tt) (reading_uses_no_output true message)
+                (rw hashed at read))
                 (d1, (back, s1, o1), (d2, (copy, s2), (d3, (digests, r3, s3, o3), last)));
             vouched = vouches_alike _ same;
             signed_same = same;
@@ -469,9 +472,9 @@ module _ {R W O : Type 0} (accepts : Verifier) (pk : PublicKeyRecord) (x : Signa
       (at r) answer
   beside_sinks r _ answer read =
       beside_output out.sink out.old (record reader { new = r }) (record status { new = status.old }) no_sink
-      _ answer (reading_uncopied _ _)
+      _ answer (reading_uses_no_output _ _)
       (beside_status status.sink status.old (record reader { new = r }) no_sink no_sink
-      _ answer (reading_unsaid _ _) read)
+      _ answer (reading_uses_no_status _ _) read)
 
   -- If reading fails, verification fails, with both sinks unchanged.
   pub unread : (e : Fault) → (message : List ℕ) × StagesEnd reader no_sink no_sink
@@ -574,7 +577,7 @@ module _ {R W O : Type 0} (accepts : Verifier) (pk : PublicKeyRecord) (x : Signa
             (say_runs (record reader { old = mid; new = mid }) status (record out { new = out.old }) quiet x
             refl refl silent said no_new_fault unflushed)
             (beside_status status.sink status.new (record reader { old = mid }) no_sink out
-            (copying second) (Err e) (copying_unsaid _ _ _ _)
+            (copying second) (Err e) (copying_uses_no_status _ _ _ _)
             (subst (λ stages. StagesEnd (record reader { old = mid }) no_sink out stages (Err e))
             (copying_is accepts pk x legacy held.0 vouches second output signed held.1) run))),
       )
@@ -605,8 +608,9 @@ IsReason accepts pk x quiet output legacy reader status out e = (e ≡ Named Out
 module _ {R W O : Type 0} (accepts : Verifier) (pk : PublicKeyRecord) (x : SignatureBoxRecord)
     (quiet output legacy : Bool)
     (reader : RereaderCall R) (status : SinkCall W) (out : SinkCall O) (e : Fault) where
-  abbrev Why : Type 0
-  Why = IsReason accepts pk x quiet output legacy reader status out e
+  -- The error has one of the reasons of IsReason.
+  abbrev HasReason : Type 0
+  HasReason = IsReason accepts pk x quiet output legacy reader status out e
 
   -- From this state on, these stages were run and one of them failed.
   abbrev Stops : List Stage → Devices R W O → Type 0
@@ -614,26 +618,25 @@ module _ {R W O : Type 0} (accepts : Verifier) (pk : PublicKeyRecord) (x : Signa
 
   -- If a read fails and the source had not failed before, this is one of the reasons.
   read_fault : (r : R) → reader.source.faults r ≡ reader.source.faults reader.old
-      → IsReadFault reader.source r reader.new e → Why
+      → IsReadFault reader.source r reader.new e → HasReason
   read_fault r _ (inl memory) = inl memory.0
   read_fault r no_new_fault (inr failed) =
       inr (inr (inl (record {
         fault = failed.fault;
-        rose =
-            rw no_new_fault at failed.rose;
+        rose = rw no_new_fault at failed.rose;
       })))
 
   out_fault : output ≡ true → (o : O) → out.sink.sink_faults o ≡ out.sink.sink_faults out.old
-      → IsWritingFault (record out { old = o }) e → Why
+      → IsWritingFault (record out { old = o }) e → HasReason
   out_fault is_requested o no_new_fault (_, rose) =
       inr (inr (inr (inr (inr (inl (is_requested, rw no_new_fault at rose))))))
 
   mark_fault : output ≡ true → (r : R) → reader.source.faults r ≡ reader.source.faults reader.old
-      → ErrorCountRises (reader.source.faults r) (reader.source.faults reader.new) → Why
+      → ErrorCountRises (reader.source.faults r) (reader.source.faults reader.new) → HasReason
   mark_fault is_requested r no_new_fault rose = inr (inl (is_requested, rw no_new_fault at rose))
 
   why_unread : (again : Bool) (message : List ℕ) → (again ≡ true → output ≡ true)
-      → Stops (reading_stages again message) (begun reader status out) → Why
+      → Stops (reading_stages again message) (begun reader status out) → HasReason
   why_unread true _ is_requested (inl ((_, fails), s, o)) =
       mark_fault (is_requested refl) _ refl fails.fault
   why_unread true _ _ (inr (d, (marked, s, o), inl (((fails, _), _), _, _))) =
@@ -643,7 +646,7 @@ module _ {R W O : Type 0} (accepts : Verifier) (pk : PublicKeyRecord) (x : Signa
   why_unread false _ _ (inr (d, _, h)) = absurd h
 
   why_unsaid : (is_requested : Bool) → is_requested ≡ quiet → (d : Devices R W O) → d.status ≡ status.old
-      → Stops (reporting_stages is_requested x) d → Why
+      → Stops (reporting_stages is_requested x) d → HasReason
   why_unsaid true _ d _ h = absurd h
   why_unsaid false _ d _ (inl (inl memory, r, o)) = inl memory.0
   why_unsaid false is d same (inl (inr (((_, rose), _), _), r, o)) =
@@ -665,7 +668,7 @@ module _ {R W O : Type 0} (accepts : Verifier) (pk : PublicKeyRecord) (x : Signa
   module _ (message second : List ℕ) (d : Devices R W O) (same : d.out ≡ out.old) where
     why_uncopied : (copies hashed : Bool) → copies ≡ output
         → FirstPass (copies && hashed) (record reader { new = d.reader }) message
-        → Stops (copying_stages copies hashed message second) d → Why
+        → Stops (copying_stages copies hashed message second) d → HasReason
     why_uncopied false _ _ _ h = absurd h
     why_uncopied true true is pass (inl ((fault, fails), s, o)) =
         mark_fault (sym is) _ pass.no_new_fault fails.fault
@@ -705,7 +708,7 @@ module _ {R W O : Type 0} (accepts : Verifier) (pk : PublicKeyRecord) (x : Signa
       → FirstPass (output && hashed) (record reader { new = d.reader }) message → (d.status ≡ status.old)
       → (d.out ≡ out.old)
       → Stops (Judge accepts pk x legacy message
-      ∷ (reporting_stages quiet x ++ copying_stages output hashed message second)) d → Why
+      ∷ (reporting_stages quiet x ++ copying_stages output hashed message second)) d → HasReason
   why_after _ message _ d pass s o (inl (inl refuses, r, _, _)) =
       inr (inr (inr (inl (message, pass.known_bytes, sym refuses))))
   why_after hashed message second d pass s o (inl (inr memory, r, s2, o2)) = inl (cc memory)
@@ -715,7 +718,9 @@ module _ {R W O : Type 0} (accepts : Verifier) (pk : PublicKeyRecord) (x : Signa
       why_uncopied _ _ d3 (o3 ∙ o2 ∙ o) _ _ refl (rw (sym (r3 ∙ r2)) at pass) h3)
       (stopped_in (OneEnds reader status out) _ _ d2 (ended reader status out) e h)
 
-  pub why_it_fails : VerifyingFails accepts pk x (options_of quiet output legacy) reader status out e → Why
+  -- If verification fails, the error has one of these reasons.
+  pub why_it_fails : VerifyingFails accepts pk x (options_of quiet output legacy) reader status out e
+      → HasReason
   why_it_fails (message, second, h) =
       ⊎_elim (why_unread (is_reread output x) message
       (λ both. (and_parts _ (is_prehashed x.signature) both).0)) (λ (d, read, h2).

@@ -1,5 +1,6 @@
--- Lemmas about verification with devices: if no device fails, the result is that of the function
--- judge; with texts, it is that of what they parse to; and the comment is the one that was signed.
+-- Lemmas about verification with devices. If no device fails, the result is that of the function judge; for
+-- two texts, that of judge for the key and the box that they parse to. A returned comment is the trusted
+-- comment of the signature text.
 use Rattle.std.proofs.Common.{◌≡◌, ℕ, true, List, inl, inr, sym, ap, ◌∙◌, IfErr, IsErrAnd, OnOk}
 use Rattle.std.proofs.Common.{IfSome, ◌⊎◌, ⊎_elim, false, refl, [], Option, None, Some, IfOk, Result, Ok}
 use Rattle.std.proofs.Common.{Err, true≢false, IsSome, Bool}
@@ -128,8 +129,8 @@ some_ahead (Some xs) = (xs, refl)
 
 -- The three kinds of error that are possible if nothing is reported or copied: out of memory, a failed
 -- source, or the error of the verdict.
-abbrev IsLeft : {R : Type 0} → Verifier → List ℕ → List ℕ → RereaderCall R → Fault → Type 0
-IsLeft accepts pk sig reader e = (e ≡ Named OutOfMemory)
+abbrev IsQuietFault : {R : Type 0} → Verifier → List ℕ → List ℕ → RereaderCall R → Fault → Type 0
+IsQuietFault accepts pk sig reader e = (e ≡ Named OutOfMemory)
     ⊎ HasFailed ReadingFailed reader.source.faults reader.old reader.new e
     ⊎ ((message : List ℕ) × KnownBytesAre (reader.source.ahead reader.old) message
     × (verdict accepts pk sig message false ≡ Err e))
@@ -139,7 +140,7 @@ module _ {R W O : Type 0} (accepts : Verifier) (pk sig : List ℕ) (reader : Rer
     (key : PublicKeyRecord) (box : SignatureBoxRecord) (e : Fault) (read : read_texts pk sig ≡ Ok (key, box))
   where
     ahead_reason : IsReason accepts key box true false false reader status out e
-        → IsLeft accepts pk sig reader e
+        → IsQuietFault accepts pk sig reader e
     ahead_reason (inl memory) = inl memory
     ahead_reason (inr (inl (is_requested, _))) = absurd (true≢false (sym is_requested))
     ahead_reason (inr (inr (inl failed))) = inr (inl failed)
@@ -156,7 +157,7 @@ pub file_verdict : {T R : Type 0} (bytes : T → List ℕ) (accepts : Verifier) 
     (reader : RereaderCall R) (r : Result T Fault)
     → IfOk r (λ t. (message : List ℕ) × ReadsWhole reader.source reader.old reader.new message
     × TextsVouchWith accepts pk sig message false (bytes t))
-    → IfErr r (IsLeft accepts pk sig reader)
+    → IfErr r (IsQuietFault accepts pk sig reader)
     → (message : List ℕ) × IsReadFromFile (λ sig. verdict accepts pk sig message false) (map_ok bytes r)
 file_verdict _ _ _ sig _ (Ok t) (message, _, vouched) _ =
     (message, inl (sig, sym (vouched_verdict _ _ _ _ _ _ vouched)))
@@ -192,17 +193,16 @@ module _ {R W O : Type 0} (accepts : Verifier) (pk sig : List ℕ) (reader : Rer
       known_bytes = ok.verified.known_bytes;
       end = ok.verified.end;
       mark = ok.verified.mark refl;
-      no_new_fault =
-          ok.verified.no_new_fault;
+      no_new_fault = ok.verified.no_new_fault;
     },
     signed_comment _ _ _ _ _ _ (both_vouch _ _ _ ok ok.verified.vouches) said,
   )
   ahead_vouched _ (Err e) _ _ = tt
 
-  -- An error is one of the three kinds of IsLeft.
+  -- An error is one of the three kinds of IsQuietFault.
   pub ahead_refused : {T : Type 0} (r : Result T Fault)
       → IfErr r (VerifyingTextsFails accepts pk sig (options_of true false false) reader status out)
-      → IfErr r (IsLeft accepts pk sig reader)
+      → IfErr r (IsQuietFault accepts pk sig reader)
   ahead_refused (Ok t) _ = tt
   ahead_refused (Err e) (inl (why, _, _, _)) =
       let (message, ahead) = some_ahead (reader.source.ahead reader.old) in

@@ -1,5 +1,6 @@
 -- Lemmas about texts that are written as lines and split into lines again: first lines, graphic characters,
--- and lines with labels.
+-- and lines with labels. The numbers are codes of ASCII: 10 is a line feed, 13 a carriage return, 32 a space,
+-- 48 the digit 0, and 61 the sign = that pads base64.
 use Rattle.std.proofs.Common.{◌≡◌, ◌≢◌, ◌==◌, subst, ℕ, zero, suc, ◌+◌, ◌-◌, ◌<◌, ◌≤◌, Bool, true, false}
 use Rattle.std.proofs.Common.{◌&&◌, List, [], ◌∷◌, ◌++◌, length, take, slice_index, refl, sym, ap, ◌∙◌}
 use Rattle.std.proofs.Common.{arith, eqb, leb, ⊎_elim, ◌^◌, ◌*◌, ◌/◌, ◌%◌, replicate, nat_lt, get_or}
@@ -28,6 +29,7 @@ no_newline : (bs : List ℕ) → NoCharPasses is_newline bs → All (λ b. eqb b
 no_newline bs h k d l = ne_eqb _ 10
     (λ z. NoCharPasses-char 10 bs k h (lit< tt) l (get_or_default bs k 0 d l ∙ z))
 
+-- The function strip_carriage_return meets its specification, the relation StripsCarriageReturn.
 stripped : (l x : List ℕ) → StripsCarriageReturn l x → strip_carriage_return l ≡ x
 stripped [] x (inl h) = sym h.0
 stripped (b ∷ l) x (inl h) = ap (λ t. cond t (take (length (b ∷ l) - 1) (b ∷ l)) (b ∷ l))
@@ -37,6 +39,7 @@ stripped l x (inr e) =
     let front : take (length l - 1) l ≡ x = grind (arith, common_steps) in
     ap (λ t. cond t (take (length l - 1) l) l) (eq-eqb _ 13 last) ∙ front
 
+-- The first part gives the first line, without a carriage return at its end.
 pub lines_of_parts-cons : (x : List ℕ) (parts : List (List ℕ)) → 0 < length parts → lines_of_parts (x ∷ parts)
     ≡ strip_carriage_return x ∷ lines_of_parts parts
 lines_of_parts-cons x [] l = absurd (omega arith)
@@ -69,7 +72,7 @@ lines-cut x rest front =
     ap lines_of_parts (slice_split_at (λ b. eqb b 10) x 10 rest front refl) ∙ lines_of_parts-cons x
     _ (omega (arith, length-slice_split (λ b. eqb b 10) rest))
 
--- A graphic ASCII character: neither a line feed nor white space.
+-- A graphic ASCII character, from ! (33) to ~ (126). It is neither a line feed nor white space.
 abbrev pub IsGraphic : ℕ → Type 0
 IsGraphic c = IsInRange 33 126 c
 
@@ -87,6 +90,7 @@ abbrev pub all_pass : (ℕ → Bool) → List ℕ → Bool
 all_pass _ [] = true
 all_pass test (c ∷ cs) = test c && all_pass test cs
 
+-- If each character of a text passes a test that implies P, P holds for each character.
 pub each_passes : (test : ℕ → Bool) (P : ℕ → Type 0) → ((c : ℕ) → test c ≡ true → P c) → (xs : List ℕ)
     → all_pass test xs ≡ true → AllByRecursion P xs
 each_passes _ P _ [] h = tt
@@ -94,9 +98,9 @@ each_passes _ P holds (x ∷ xs) h =
     let (first, others) = and_parts _ _ h in
     (holds x first, each_passes _ P holds xs others)
 
--- The 64 characters of base64.
-abbrev letters : List ℕ
-letters = standard.encode_table
+-- The 64 characters of base64, without the padding character =.
+abbrev base64_symbols : List ℕ
+base64_symbols = standard.encode_table
 
 abbrev is_graphic : ℕ → Bool
 is_graphic c = leb 33 c && leb c 126
@@ -104,37 +108,41 @@ is_graphic c = leb 33 c && leb c 126
 graphic_from : (c : ℕ) → is_graphic c ≡ true → IsGraphic c
 graphic_from c h = grind (arith, common_steps)
 
--- If `is_graphic` is true for all characters of a text, AllGraphic holds. For a literal text, `refl` proves
--- the premise.
+-- If `is_graphic` is true for all characters of a text, AllGraphic holds. If the text is a literal, `refl`
+-- proves this premise.
 pub graphic_codes : (xs : List ℕ) → all_pass is_graphic xs ≡ true → AllGraphic xs
 graphic_codes = each_passes _ _ graphic_from
 
-letter : (i : ℕ) → i < 64 → IsGraphic (slice_index letters i)
-letter i l = graphic_from _ (all_below_at (λ i. is_graphic (slice_index letters i)) 64 i refl l)
+graphic_symbol_at : (i : ℕ) → i < 64 → IsGraphic (slice_index base64_symbols i)
+graphic_symbol_at i l =
+    graphic_from _ (all_below_at (λ i. is_graphic (slice_index base64_symbols i)) 64 i refl l)
 
-graphic_symbols : (m : List ℕ) → IsBytes m → AllGraphic (encode_symbols letters m)
+graphic_symbols : (m : List ℕ) → IsBytes m → AllGraphic (encode_symbols base64_symbols m)
 unfolding encode_symbols
 graphic_symbols [] h = tt
 graphic_symbols (a ∷ []) h =
     let la : a < 256 = h 0 in
-    (letter (a / 4) (omega arith), (letter (a % 4 * 16) (omega arith), tt))
+    (graphic_symbol_at (a / 4) (omega arith), (graphic_symbol_at (a % 4 * 16) (omega arith), tt))
 graphic_symbols (a ∷ b ∷ []) h =
     let la : a < 256 = h 0 in
     let lb : b < 256 = h 1 in (
-      letter (a / 4) (omega arith),
-      (letter (a % 4 * 16 + b / 16) (omega arith), (letter (b % 16 * 4) (omega arith), tt)),
+      graphic_symbol_at (a / 4) (omega arith),
+      (
+        graphic_symbol_at (a % 4 * 16 + b / 16) (omega arith),
+        (graphic_symbol_at (b % 16 * 4) (omega arith), tt),
+      ),
     )
 graphic_symbols (a ∷ b ∷ c ∷ rest) h =
     let la : a < 256 = h 0 in
     let lb : b < 256 = h 1 in
     let lc : c < 256 = h 2 in (
-      letter (a / 4) (omega arith),
+      graphic_symbol_at (a / 4) (omega arith),
       (
-        letter (a % 4 * 16 + b / 16) (omega arith),
+        graphic_symbol_at (a % 4 * 16 + b / 16) (omega arith),
         (
-          letter (b % 16 * 4 + c / 64) (omega arith),
+          graphic_symbol_at (b % 16 * 4 + c / 64) (omega arith),
           (
-            letter (c % 64) (omega arith),
+            graphic_symbol_at (c % 64) (omega arith),
             graphic_symbols rest (λ i. h (suc (suc (suc i)))),
           ),
         ),
@@ -151,7 +159,7 @@ unfolding base64_of
 graphic_base64 m h = each_append _ _ _ (graphic_symbols m h)
     (graphic_replicate _ 61 (omega arith, omega arith))
 
--- The digits of a key ID are graphic too.
+-- The hexadecimal digits of a key ID are graphic too.
 graphic_digit : (d : ℕ) → d < 16 → IsGraphic (digit_glyph true d)
 graphic_digit d l = grind (arith, common_steps)
 
@@ -165,7 +173,8 @@ graphic_digits (suc k) n acc h =
       | false ↦ graphic_digits k _ _ (digit, h)
     ]
 
--- A number that is padded to 16 digits consists of graphic characters.
+-- A number that is padded to 16 digits consists of graphic characters. The arguments of format_spec stand for
+-- the format {:016X}: the fill character (a space), no alignment, the flag 0, the width, and no precision.
 graphic_padded : (numeral : List ℕ) → AllGraphic numeral
     → AllGraphic (padded_integral (format_spec 32 0 4 16 (2 ^ 64 - 1)) false [] numeral)
 unfolding padded_integral
@@ -177,43 +186,52 @@ pub graphic_key_id : (id : List ℕ) → AllGraphic (key_id_text id)
 unfolding key_id_text digits
 graphic_key_id id = graphic_padded _ (graphic_digits 64 (from_le_bytes w64 id) [] tt)
 
--- A graphic character is not white space, so trimming leaves graphic characters unchanged.
+-- A graphic character is not white space, so trimming does not change a text of graphic characters. The
+-- lemmas up to `trim_graphic` prove this for each function that trimming calls.
 not_white_space : (c : ℕ) → IsGraphic c → is_whitespace c ≡ false
 not_white_space c h = grind (arith, common_steps, tests)
 
-all_ascii : (xs : List ℕ) → AllGraphic xs → IsAscii xs
-all_ascii [] h i = omega arith
-all_ascii (x ∷ xs) h zero = omega (arith, h.0.1)
-all_ascii (x ∷ xs) h (suc i) = all_ascii xs h.1 i
+ascii_graphic : (xs : List ℕ) → AllGraphic xs → IsAscii xs
+ascii_graphic [] h i = omega arith
+ascii_graphic (x ∷ xs) h zero = omega (arith, h.0.1)
+ascii_graphic (x ∷ xs) h (suc i) = ascii_graphic xs h.1 i
 
-spelled_after : (c : ℕ) (xs : List ℕ) → AllGraphic xs → chars_after 0 c xs ≡ c ∷ xs
-spelled_after c [] h = refl
-spelled_after c (x ∷ xs) h =
+chars_after_graphic : (c : ℕ) (xs : List ℕ) → AllGraphic xs → chars_after 0 c xs ≡ c ∷ xs
+chars_after_graphic c [] h = refl
+chars_after_graphic c (x ∷ xs) h =
     let low : nat_lt x 128 ≡ true = grind (arith, common_steps, tests) in
-    ap (λ l. c ∷ l) (rw low (spelled_after x xs h.1))
+    ap (λ l. c ∷ l) (rw low (chars_after_graphic x xs h.1))
 
-spelled : (xs : List ℕ) → AllGraphic xs → chars xs ≡ xs
+chars_graphic : (xs : List ℕ) → AllGraphic xs → chars xs ≡ xs
 unfolding chars
-spelled [] h = refl
-spelled (x ∷ xs) h =
+chars_graphic [] h = refl
+chars_graphic (x ∷ xs) h =
     let low : nat_lt x 128 ≡ true = grind (arith, common_steps, tests) in
-    rw low (spelled_after x xs h.1)
+    rw low (chars_after_graphic x xs h.1)
 
-front_stays : (xs : List ℕ) → AllGraphic xs → skip_leading_whitespace xs ≡ xs
-front_stays [] h = refl
-front_stays (x ∷ _) h = rw (not_white_space x h.0) refl
+skip_leading_whitespace_graphic : (xs : List ℕ) → AllGraphic xs → skip_leading_whitespace xs ≡ xs
+skip_leading_whitespace_graphic [] h = refl
+skip_leading_whitespace_graphic (x ∷ _) h = rw (not_white_space x h.0) refl
 
-back_stays : (xs : List ℕ) → AllGraphic xs → drop_trailing_whitespace xs ≡ xs
-back_stays [] h = refl
-back_stays (x ∷ xs) h = rw (not_white_space x h.0) (ap (λ l. x ∷ l) (back_stays xs h.1))
+drop_trailing_whitespace_graphic : (xs : List ℕ) → AllGraphic xs → drop_trailing_whitespace xs ≡ xs
+drop_trailing_whitespace_graphic [] h = refl
+drop_trailing_whitespace_graphic (x ∷ xs) h =
+    rw (not_white_space x h.0) (ap (λ l. x ∷ l) (drop_trailing_whitespace_graphic xs h.1))
 
 pub trim_graphic : (xs : List ℕ) → AllGraphic xs → trim xs ≡ xs
 unfolding trim_start trim_end
 trim_graphic xs h =
-    let written = encodes-IsAscii xs (all_ascii xs h) in
-    rw (spelled xs h, front_stays xs h, written, spelled xs h, back_stays xs h, written) refl
+    let written = encodes-IsAscii xs (ascii_graphic xs h) in
+    rw (
+      chars_graphic xs h,
+      skip_leading_whitespace_graphic xs h,
+      written,
+      chars_graphic xs h,
+      drop_trailing_whitespace_graphic xs h,
+      written,
+    ) refl
 
--- A line: it has no line feed, and no carriage return at its end.
+-- A text that can be a line: it has no line feed, and no carriage return at its end.
 pub record IsOneLine (x : List ℕ) : Type 0 where
   pub no_feed : (k : ℕ) → k < length x → slice_index x k ≢ 10
   pub no_return : slice_index x (length x - 1) ≢ 13
@@ -221,39 +239,45 @@ pub record IsOneLine (x : List ℕ) : Type 0 where
 no_feeds : (x : List ℕ) → ((k : ℕ) → k < length x → slice_index x k ≢ 10) → All (λ b. eqb b 10 ≡ false) x
 no_feeds x h k d l = ne_eqb _ 10 (λ z. h k l (get_or_default x k 0 d l ∙ z))
 
--- The lines of a line followed by a text are this line and the lines of the text.
+-- Splitting x, a line feed and a text into lines gives x and then the lines of the text, if x can be a line.
+-- (`line x` is x with a line feed.)
 pub lines_line : (x rest : List ℕ) → IsOneLine x → lines (line x ++ rest) ≡ x ∷ lines rest
 lines_line x rest h = ap lines (append_assoc x (10 ∷ []) rest) ∙ lines-cut x _ (no_feeds x h.no_feed)
     ∙ ap (λ b. b ∷ lines rest) (ap (λ t. cond t (take (length x - 1) x) x) (ne_eqb _ 13 h.no_return))
 
--- A text of one line has only this line.
+-- Splitting x and a line feed gives only the line x, if x can be a line.
 pub lines_last : (x : List ℕ) → IsOneLine x → lines (line x) ≡ x ∷ []
 lines_last x h = ap lines (sym (append-nil (line x))) ∙ lines_line x [] h
 
--- All characters are the space or have a greater code, so none is a line feed or a carriage return.
-abbrev pub AllShown : List ℕ → Type 0
-AllShown xs = AllByRecursion (λ c. 32 ≤ c) xs
+-- No character has a code below 32, the code of the space, so there is no line feed and no carriage return.
+-- The character DEL (127) is allowed.
+abbrev pub LacksControls : List ℕ → Type 0
+LacksControls xs = AllByRecursion (λ c. 32 ≤ c) xs
 
-pub shown_graphic : (xs : List ℕ) → AllGraphic xs → AllShown xs
-shown_graphic [] h = tt
-shown_graphic (x ∷ xs) h = (omega (arith, h.0.0), shown_graphic xs h.1)
+-- Graphic characters are not control characters.
+pub lacks_controls_graphic : (xs : List ℕ) → AllGraphic xs → LacksControls xs
+lacks_controls_graphic [] h = tt
+lacks_controls_graphic (x ∷ xs) h = (omega (arith, h.0.0), lacks_controls_graphic xs h.1)
 
-shown_at : (xs : List ℕ) (k : ℕ) → AllShown xs → k < length xs → 32 ≤ slice_index xs k
-shown_at [] k h l = absurd (omega arith)
-shown_at (x ∷ _) zero h l = h.0
-shown_at (x ∷ xs) (suc k) h l = shown_at xs k h.1 (omega arith)
+lacks_controls_at : (xs : List ℕ) (k : ℕ) → LacksControls xs → k < length xs → 32 ≤ slice_index xs k
+lacks_controls_at [] k h l = absurd (omega arith)
+lacks_controls_at (x ∷ _) zero h l = h.0
+lacks_controls_at (x ∷ xs) (suc k) h l = lacks_controls_at xs k h.1 (omega arith)
 
-pub shown_one_line : (x : List ℕ) → AllShown x → IsOneLine x
-shown_one_line [] h = record { no_feed = λ k l. absurd (omega arith); no_return = λ e. absurd (omega arith) }
-shown_one_line (x ∷ xs) h = record {
-  no_feed = λ k l e. absurd (omega (arith, e, shown_at (x ∷ xs) k h l));
-  no_return = λ e. absurd (omega (arith, e, shown_at (x ∷ xs) (length (x ∷ xs) - 1) h (omega arith)));
+-- A text without control characters can be a line.
+pub one_line_without_controls : (x : List ℕ) → LacksControls x → IsOneLine x
+one_line_without_controls [] h =
+    record { no_feed = λ k l. absurd (omega arith); no_return = λ e. absurd (omega arith) }
+one_line_without_controls (x ∷ xs) h = record {
+  no_feed = λ k l e. absurd (omega (arith, e, lacks_controls_at (x ∷ xs) k h l));
+  no_return =
+      λ e. absurd (omega (arith, e, lacks_controls_at (x ∷ xs) (length (x ∷ xs) - 1) h (omega arith)));
 }
 
--- If `leb 32` is true for all characters of a text, AllShown holds. For a literal text, `refl` proves the
--- premise.
-pub shown_codes : (xs : List ℕ) → all_pass (leb 32) xs ≡ true → AllShown xs
-shown_codes = each_passes _ _ (leb-true 32)
+-- If `leb 32` is true for all characters of a text, LacksControls holds. If the text is a literal, `refl`
+-- proves this premise.
+pub lacks_controls_codes : (xs : List ℕ) → all_pass (leb 32) xs ≡ true → LacksControls xs
+lacks_controls_codes = each_passes _ _ (leb-true 32)
 
 -- The line of a label and a text, followed by a rest, is the label followed by the text, a line feed and
 -- the rest.
@@ -267,18 +291,20 @@ last_append xs ys some =
     ap (λ n. slice_index (xs ++ ys) n) at ∙ get_or-append-add xs _ _ _
 
 -- A line with a label has no line feed.
-labelled_no_feed : (label x : List ℕ) → AllShown label → LacksByte 10 x → (k : ℕ) → k < length (label ++ x)
+labelled_no_feed : (label x : List ℕ) → LacksControls label → LacksByte 10 x → (k : ℕ)
+    → k < length (label ++ x)
     → slice_index (label ++ x) k ≢ 10
-labelled_no_feed label x shown lacks k l e = ⊎_elim
-    (λ before. absurd (omega (arith, shown_at label k shown before, get_or-append label x 0 k before, e)))
+labelled_no_feed label x no_controls lacks k l e = ⊎_elim
+    (λ before. absurd
+    (omega (arith, lacks_controls_at label k no_controls before, get_or-append label x 0 k before, e)))
     (λ behind. lacks (k - length label) (omega (arith, l, length-append label x))
     (sym (get_or-append_right _ x k 0 behind) ∙ e)) (cases_lt k (length label))
 
 -- A label and a text that has no line feed and no carriage return at its end are together one line.
-pub labelled_one_line : (label x : List ℕ) → AllShown label → 0 < length label → LacksByte 10 x
+pub labelled_one_line : (label x : List ℕ) → LacksControls label → 0 < length label → LacksByte 10 x
     → slice_index x (length x - 1) ≢ 13 → IsOneLine (label ++ x)
-labelled_one_line label x shown some lacks end = record {
-  no_feed = labelled_no_feed label x shown lacks;
+labelled_one_line label x no_controls some lacks end = record {
+  no_feed = labelled_no_feed label x no_controls lacks;
   no_return = last_is_not_cr x lacks end;
 }
   where
@@ -286,22 +312,24 @@ labelled_one_line label x shown some lacks end = record {
         → slice_index (label ++ x) (length (label ++ x) - 1) ≢ 13
     last_is_not_cr [] lacks end e =
         let at = subst (λ (t : List ℕ). slice_index t (length t - 1) ≡ 13) (append-nil label) e in
-        absurd (omega (arith, at, shown_at label (length label - 1) shown (omega arith)))
+        absurd (omega (arith, at, lacks_controls_at label (length label - 1) no_controls (omega arith)))
     last_is_not_cr (y ∷ ys) lacks end e = end (sym (last_append label (y ∷ ys) (omega arith)) ∙ e)
 
--- A label does not end in a carriage return. So removing a carriage return at the end of a label and a
--- text removes it from the text.
-label_ends : (label : List ℕ) → AllShown label → 0 < length label
+-- A label does not end in a carriage return.
+label_end_is_not_cr : (label : List ℕ) → LacksControls label → 0 < length label
     → slice_index (label ++ []) (length (label ++ []) - 1) ≢ 13
-label_ends label shown some = (labelled_one_line _ [] shown some (λ k l. absurd (omega arith))
+label_end_is_not_cr label no_controls some =
+    (labelled_one_line _ [] no_controls some (λ k l. absurd (omega arith))
     (λ e. absurd (omega arith))).no_return
 
-pub strip_labelled : (label x : List ℕ) → AllShown label → 0 < length label
+-- Removing a carriage return at the end of a label and a text gives the label and the text without a
+-- carriage return at its end.
+pub strip_labelled : (label x : List ℕ) → LacksControls label → 0 < length label
     → strip_carriage_return (label ++ x) ≡ label ++ strip_carriage_return x
-strip_labelled label [] shown some =
+strip_labelled label [] no_controls some =
     ap (λ t. cond t (take (length (label ++ []) - 1) (label ++ [])) (label ++ []))
-    (ne_eqb _ 13 (label_ends _ shown some))
-strip_labelled label (y ∷ ys) shown some =
+    (ne_eqb _ 13 (label_end_is_not_cr _ no_controls some))
+strip_labelled label (y ∷ ys) no_controls some =
     ap (λ n. cond (eqb n 13) (take (length (label ++ y ∷ ys) - 1) (label ++ y ∷ ys)) (label ++ y ∷ ys))
     (last_append label _ (omega arith))
     ∙ step (eqb (slice_index (y ∷ ys) (length (y ∷ ys) - 1)) 13)
@@ -318,27 +346,28 @@ strip_labelled label (y ∷ ys) shown some =
 -- If a text begins with a label, a text x without a line feed, and a line feed, its first line is the label
 -- followed by x, without the carriage return at the end of x if there is one. Its other lines are those of
 -- the rest.
-pub lines_labelled : (label x rest : List ℕ) → AllShown label → 0 < length label → LacksByte 10 x
+pub lines_labelled : (label x rest : List ℕ) → LacksControls label → 0 < length label → LacksByte 10 x
     → lines (line (label ++ x) ++ rest) ≡ (label ++ strip_carriage_return x) ∷ lines rest
-lines_labelled label x rest shown some lacks =
+lines_labelled label x rest no_controls some lacks =
     ap lines (append_assoc (label ++ x) (10 ∷ []) rest) ∙ lines-cut _ _
-    (no_feeds _ (labelled_no_feed _ x shown lacks))
-    ∙ ap (λ b. b ∷ lines rest) (strip_labelled _ x shown some)
+    (no_feeds _ (labelled_no_feed _ x no_controls lacks))
+    ∙ ap (λ b. b ∷ lines rest) (strip_labelled _ x no_controls some)
 
 -- Removing a carriage return at the end does not change a text that does not end in one.
 pub strip_none : (x : List ℕ) → slice_index x (length x - 1) ≢ 13 → strip_carriage_return x ≡ x
 strip_none x other = ap (λ t. cond t (take (length x - 1) x) x) (ne_eqb _ 13 other)
 
--- A trimmed text does not end in a carriage return.
-last_of_letter : (c : ℕ) → is_whitespace c ≡ false
+-- The encoding of a character that is not white space does not end in a carriage return.
+last_byte_of_char : (c : ℕ) → is_whitespace c ≡ false
     → slice_index (encode_utf8 c) (length (encode_utf8 c) - 1) ≢ 13
-last_of_letter c not_white_space e =
+last_byte_of_char c not_white_space e =
     let some : 0 < length (encode_utf8 c) = omega (arith, length-encode c, (len_utf8_bounds c).0) in
     let same : c ≡ slice_index (encode_utf8 c) (length (encode_utf8 c) - 1) = inside_one c []
     (encode_utf8 c) _ (sym (append-nil _)) (omega arith) (omega (arith, e)) in
     let no = sym not_white_space ∙ ap is_whitespace (same ∙ e) in
     cc no
 
+-- A text without white space at its end does not end in a carriage return.
 last_not_white_space : (cs : List ℕ) → slice_index (encode_utf8_all (drop_trailing_whitespace cs))
     (length (encode_utf8_all (drop_trailing_whitespace cs)) - 1) ≢ 13
 last_not_white_space [] = λ e. absurd (omega arith)
@@ -350,7 +379,7 @@ last_not_white_space (c ∷ cs) =
         → slice_index (encode_utf8_all (cond (white && length ds == 0) [] (c ∷ ds)))
         (length (encode_utf8_all (cond (white && length ds == 0) [] (c ∷ ds))) - 1) ≢ 13
     step [] true is others = λ e. absurd (omega arith)
-    step [] false is others = (rw (sym (append-nil (encode_utf8 c))) at (last_of_letter c is))
+    step [] false is others = (rw (sym (append-nil (encode_utf8 c))) at (last_byte_of_char c is))
     step (d ∷ ds) true is others =
         let more : length (d ∷ ds) == 0 ≡ false = ne_eqb _ 0 (λ z. absurd (omega arith)) in
         rw more (λ e. others (sym (last_append (encode_utf8 c) (encode_utf8_all (d ∷ ds))
@@ -358,6 +387,7 @@ last_not_white_space (c ∷ cs) =
     step (d ∷ ds) false is others = λ e. others (sym (last_append (encode_utf8 c) (encode_utf8_all (d ∷ ds))
         (omega (arith, length-le-encodes (d ∷ ds)))) ∙ e)
 
+-- A trimmed text does not end in a carriage return.
 pub trimmed_end : (t : List ℕ) → trim t ≡ t → slice_index t (length t - 1) ≢ 13
 unfolding trim_end
 trimmed_end t same = rw same at (last_not_white_space (chars (trim_start t)))

@@ -1,5 +1,5 @@
 -- The headlines of verification: what a caller of the verifying calls may rely on. docs/TRUSTED.md explains
--- the notation, such as x.now, and that a key or a box of the code represents its record or its text here.
+-- the notation, such as x.now. A key or a box of the code stands for its record or its text here.
 use Rattle.std.specs.Prelude.{◌≡◌, ℕ, Bool, true, List, Some, Ok, IfSome, Result, false}
 use Rattle.minisign_base.specs.Fault.{Fault}
 use Rattle.minisign_base.specs.DeviceCalls.{IsFlushed, IsSteady, RereaderCall, SinkFails, SinkCall}

@@ -33,7 +33,7 @@ scrypt_kdf = codes "Sc"
 abbrev pub checksum_of : SecretKeyRecord → List ℕ
 checksum_of k = blake2b_digest 32 (k.algorithm ++ k.keynum ++ k.secret)
 
--- The key names a key derivation, so it needs a password.
+-- The key names a key derivation, so it was encrypted with a password. Decryption does not change this.
 abbrev pub wants_password : SecretKeyRecord → Bool
 wants_password k = not (bytes_eq k.kdf no_kdf)
 
@@ -101,7 +101,7 @@ unencrypted_key k =
     (require (bytes_eq k.checksum (checksum_of k)) named.CorruptedKey (Ok k))
 
 -- A property of the scrypt parameters with which the key is decrypted, such as the work. It is (0, 0) if the
--- key needs no password or its limits are rejected.
+-- key was never encrypted or its limits are rejected.
 abbrev pub opening_property : (Numbers → ℕ × ℕ) → SecretKeyRecord → ℕ × ℕ
 opening_property property k =
     option_map_or property (if wants_password k then result_ok (key_limits k) else None) (0, 0)

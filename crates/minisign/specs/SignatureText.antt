@@ -147,8 +147,8 @@ view_of t = record {
 -- == The position of the trusted comment ==
 
 -- The text after its first line feed.
-abbrev pub behind_line : List ℕ → List ℕ
-behind_line text = after_first (λ b. b == 10) text
+abbrev pub after_first_line : List ℕ → List ℕ
+after_first_line text = after_first (λ b. b == 10) text
 
 -- The number of bytes before the trusted comment in its line: the label and white space.
 abbrev pub comment_start : List ℕ → ℕ
@@ -157,7 +157,7 @@ comment_start line = length line - length (trim_start (drop (length trusted_comm
 -- The number of bytes before the trusted comment in a text: two lines and the beginning of the third.
 unfoldable pub comment_offset : List ℕ → ℕ
 comment_offset text =
-    let third = behind_line (behind_line text) in
+    let third = after_first_line (after_first_line text) in
     length text - length third + comment_start (slice_index_or (lines third) 0 [])
 
 -- The bytes are in the text, at this offset.

@@ -1,5 +1,5 @@
--- The parts of key and signature files: lines, base64 (RFC 4648, section 4), and checks that are
--- made in order.
+-- Shared definitions for key and signature files: lines, base64 (RFC 4648, section 4), and checks that are
+-- made in order, so that the first failure decides the error.
 use Rattle.std.specs.Prelude.{◌≡◌, ◌↔◌, ◌⊎◌, ℕ, ◌%◌, Bool, if◌then◌else◌, bytes_eq, map, List, Result, Ok}
 use Rattle.std.specs.Prelude.{Err, codes, [], ◌∷◌, ◌++◌}
 use Rattle.minisign_base.specs.Fault.{Fault, Named}
@@ -21,7 +21,8 @@ pub record IsBase64Of (text bytes : List ℕ) : Type 0 where
   pub each : IsBytes bytes
   pub encoded : text ≡ base64_of bytes
 
--- The text is the base64 of bytes that begin with the record of v.
+-- The text is the base64 of bytes from which the value v is read. The relation `Reads` says which bytes are
+-- allowed, for example ReadsSecretKey, which ignores bytes after the record of a secret key.
 pub record Encodes {V : Type 0} (Reads : List ℕ → V → Type 0) (text : List ℕ) (v : V) : Type 0 where
   pub bytes : List ℕ
   pub base64 : IsBase64Of text bytes
@@ -50,15 +51,16 @@ abbrev pub map_ok : {V W : Type 0} → (V → W) → Result V Fault → Result W
 map_ok f (Ok v) = Ok (f v)
 map_ok f (Err e) = Err e
 
--- The answer is the given result, or it is out of memory.
+-- The result is the given one, or it is out of memory.
 abbrev pub IsValueOrNoMemory : {V : Type 0} → Result V Fault → Result V Fault → Type 0
 IsValueOrNoMemory answer given = (answer ≡ given) ⊎ (answer ≡ Err (Named OutOfMemory))
 
--- The function agrees with the relation: its result is a value exactly if the relation holds for
--- the value. So the relation holds for at most one value, and for none if there is an error.
+-- The result of a parser agrees with the relation that defines its grammar: it is a value exactly if the
+-- relation holds for this value. So the relation holds for at most one value, and for none if the result is
+-- an error.
 pub record IsReading {V E : Type 0} (reads : V → Type 0) (read : Result V E) : Type 0 where
   pub value : (v : V) → (read ≡ Ok v) ↔ reads v
 
--- The label at the beginning of the first line.
+-- The label at the beginning of a key file or signature file.
 unfoldable pub untrusted_comment_label : List ℕ
 untrusted_comment_label = codes "untrusted comment: "

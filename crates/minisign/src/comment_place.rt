@@ -4,7 +4,7 @@
 ghost use Rattle.std.specs.Prelude.{◌≡◌, ◌+◌, ◌≤◌, ◌++◌, [], List, ℕ, Ok, length, slice_index_or};
 ghost use Rattle.std.specs.Str.{trim};
 ghost use Rattle.std.specs.Str.Lines.{lines};
-ghost use Rattle.minisign.specs.SignatureText.{IsAtOffset, behind_line, comment_offset, comment_start};
+ghost use Rattle.minisign.specs.SignatureText.{IsAtOffset, after_first_line, comment_offset, comment_start};
 ghost use Rattle.minisign.specs.SignatureText.{SignatureTextRecord, read_signature};
 ghost use Rattle.minisign.specs.SignatureText.{trusted_comment_label};
 
@@ -22,14 +22,14 @@ pub fn trusted_comment_place(text: &str) -> (usize, usize)
         → (result.0 ≡ comment_offset text.now) × (result.1 ≡ length t.comments.trusted)
         × IsAtOffset t.comments.trusted text.now result.0 }
 {
-    let third = behind_line(behind_line(text));
+    let third = after_first_line(after_first_line(text));
     let (start, len) = comment_in_line(first_line(third));
     (text.len() - third.len() + start, len)
 }
 
 // Returns the text after the first line feed, or nothing if there is none.
-fn behind_line(text: &str) -> &str
-    ensures value { result.now ≡ behind_line text.now }
+fn after_first_line(text: &str) -> &str
+    ensures value { result.now ≡ after_first_line text.now }
     ensures size { length result.now ≤ length text.now }
 {
     match text.split_once('\n') {

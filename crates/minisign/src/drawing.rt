@@ -28,7 +28,7 @@ pub(crate) fn draw<const N: usize, Z: RandomSource>(random: &mut Z) -> Result<[u
 }
 
 // Returns the next `N` random bytes and the `M` after them.
-#[tactic(auto, using(crate::proofs::Beginnings::removed_after_consumed))]
+#[tactic(auto, using(crate::proofs::ErrorsAndPrefixes::removed_after_consumed))]
 pub(crate) fn draw_two<const N: usize, const M: usize, Z: RandomSource>(
     random: &mut Z,
 ) -> Result<([u8; N], [u8; M])>

@@ -96,8 +96,8 @@ impl<'a> SignatureView<'a> {
 /// Errors come in this order: no first line, no second line, a different length of the second line, a
 /// second line that is not base64, fewer than 42 bytes. Does not allocate.
 pub fn read_public_key(text: &str) -> Result<PublicKey>
-    // The result depends only on the text: it is the public key in the text, as the grammar defines it, or
-    // the error of the first check that fails.
+    // The result depends only on the text: it is the public key in the text, as `specs/KeyTexts` defines
+    // it, or the error of the first check that fails.
     ensures { result ≡ read_public_key text.now }
 {
     let mut lines = text.lines();
@@ -136,9 +136,9 @@ pub fn read_bare_public_key(text: &str) -> Result<PublicKey>
 /// second line that is not base64, or of fewer than 74 bytes; a different label of the third line; an
 /// algorithm other than `Ed` and `ED`; a fourth line that is not base64. Does not allocate.
 pub fn read_signature(text: &str) -> Result<SignatureView<'_>>
-    // The result depends only on the text: it is the signature in the text with its comments, as the
-    // grammar defines them, or the error of the first check that fails. Only the first 64 bytes of the
-    // comment signature are returned.
+    // The result depends only on the text: it is the signature in the text with its comments, as
+    // `specs/SignatureText` defines them, or the error of the first check that fails. Only the first 64 bytes
+    // of the comment signature are returned.
     ensures view { result ≡ map_ok view_of (read_signature text.now) }
 
     // On success, the trusted comment is at least 64 bytes shorter than the text.

@@ -37,7 +37,8 @@ pub fn judge_key(key_id: &[u8; 8], signature: &Signature, allow_legacy: bool) ->
     Ok(())
 }
 
-// Verifies a parsed signature over the message. `room` is scratch space for the comment message.
+// Verifies a parsed signature over the message. `room` is scratch space for the comment message, which is the
+// signature of the data followed by the trusted comment.
 pub(crate) fn judge_view<S: Scheme>(
     scheme: &S,
     pk: &PublicKey,

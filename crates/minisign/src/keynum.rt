@@ -55,8 +55,8 @@ impl KeynumSK {
     }
 }
 
-/// Prints the secret: its 64 bytes in lowercase hexadecimal, each without leading zeros, as the
-/// Rust crate does. Keep it out of logs.
+/// Prints the secret: its 64 bytes in lowercase hexadecimal, as the Rust crate `minisign` does. Each byte is
+/// written without a leading zero, so 0x05 is `5`. Keep the output out of logs.
 impl fmt::Debug for KeynumSK {
     ghost debug_output = { λ k. Some (secret_text k.sk) };
 

@@ -437,7 +437,7 @@ pub(crate) fn make_sealed_pair<S: Scheme>(
 }
 
 // Generates the random bytes for an encrypted key pair: the seed, the key ID and the salt.
-#[tactic(auto, using(crate::proofs::Beginnings::removed_after_consumed))]
+#[tactic(auto, using(crate::proofs::ErrorsAndPrefixes::removed_after_consumed))]
 pub(crate) fn draw_with_salt<Z: RandomSource>(random: &mut Z) -> Result<Drawn>
     ensures drawn { IfOk result
         (λ z. HasDrawn (random_call Z.RandomSource random.old random.new)

@@ -224,8 +224,8 @@ impl SecretKey {
     }
 
     /// Returns the work that decrypting the key takes: scrypt's N, as its logarithm to base 2, at most 20,
-    /// and its p. N rows of 1 KiB are computed p times. Both are zero if the key needs no password, or if
-    /// its limits are rejected. Does not allocate.
+    /// and its p. N rows of 1 KiB are computed p times. Both are zero if the key was never encrypted, or
+    /// if its limits are rejected. Does not allocate.
     pub fn opening_work(&self) -> (u8, u32)
         // The result is the work of the scrypt parameters that the key's limits give.
         ensures { result ≡ opening_work self.now }
@@ -247,7 +247,7 @@ impl SecretKey {
         ensures { allowed_work self.now (Some result) ≡ allowed_rows self.now most_rows }
     {
         match key_params(self) {
-            Ok(params) => times(most_rows, &params),
+            Ok(params) => greatest_p(most_rows, &params),
             Err(_) => 0,
         }
     }
@@ -284,7 +284,7 @@ impl SecretKey {
     /// Returns the memory that `open_in_place` needs if every k-th of scrypt's rows is kept, k at
     /// least 1: a number of 32-bit words and a number of bytes. Together they are 1 KiB for each
     /// kept row, for three more rows, and for each of the p parts. At most 2^20 / k rows are kept,
-    /// rounded up. Both numbers are zero if the key needs no password, or if its limits are
+    /// rounded up. Both numbers are zero if the key was never encrypted, or if its limits are
     /// rejected. Does not allocate.
     pub fn opening_memory(&self, k: u64) -> (u64, u64)
         requires { 1 ≤ k }
@@ -608,7 +608,7 @@ fn say_done<R: Source, W: Sink>(prompt: &mut Prompt<R, W>) -> Result<()>
 }
 
 // Returns the greatest p for which N * p is at most `most_rows`, limited to 32 bits.
-fn times(most_rows: u64, params: &Params) -> u32
+fn greatest_p(most_rows: u64, params: &Params) -> u32
     ensures { nat_lt result params.now.p ≡ nat_lt most_rows (2 ^ params.now.n_log2 * params.now.p) }
 {
     let times = most_rows >> params.n_log2();

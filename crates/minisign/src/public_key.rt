@@ -75,8 +75,8 @@ impl PublicKey {
     /// Errors come in this order: no first line, no second line, a different length of the second line, a
     /// second line that is not base64, fewer than 42 bytes. Does not allocate.
     pub fn from_box(_alloc: Global, public_key_box: PublicKeyBox) -> Result<PublicKey>
-        // The result depends only on the text: it is the public key in the text, as the grammar defines it,
-        // or the error of the first check that fails.
+        // The result depends only on the text: it is the public key in the text, as `specs/KeyTexts`
+        // defines it, or the error of the first check that fails.
         ensures { result ≡ read_public_key public_key_box }
     {
         read_public_key(public_key_box.as_str())
@@ -184,8 +184,9 @@ impl PublicKey {
 
     /// Returns the 42 bytes that `from_bytes` parses to this key. The only error is `OutOfMemory`.
     pub fn to_bytes(&self, alloc: Global) -> Result<Vec<u8>>
-        // On success, the bytes are those of the record. They parse to this record and, by the law
-        // `texts_are_decided`, to no other. The only error is out of memory.
+        // On success, the bytes are those of the record, and they parse to this record. By the law
+        // `texts_are_decided` in `src/texts.rt`, bytes parse to one record at most. The only error is out of
+        // memory.
         ensures bytes { IfOk result (λ v. v.items ≡ public_key_bytes self.now) }
         ensures reads_back { IfOk result (λ v. ReadsPublicKey v.items self.now) }
         ensures only_out_of_memory { IfErr result (λ e. e ≡ Named OutOfMemory) }

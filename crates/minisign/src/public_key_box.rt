@@ -16,6 +16,7 @@ use std::marker::Model;
 #[derive(Debug, Drop)]
 pub struct PublicKeyBox(String);
 
+// In contracts, the value of a box is the bytes of its text.
 impl Model for PublicKeyBox {
     ghost use Rattle.std.specs.Prelude.{List, ℕ, string_bytes};
 
@@ -59,8 +60,7 @@ impl PublicKeyBox {
 
     /// Parses the public key in the text, as `PublicKey::from_box` does.
     pub fn into_public_key(self, alloc: Global) -> Result<PublicKey>
-        // The result is the public key in the text, or the error of the first check that
-        // fails.
+        // The result is the public key in the text, or the error of the first check that fails.
         ensures { result ≡ read_public_key self }
     {
         PublicKey::from_box(alloc, self)
@@ -73,7 +73,7 @@ impl PublicKeyBox {
     }
 }
 
-/// Returns a box of this text. Does not allocate.
+/// Returns a box that holds this text. Does not allocate.
 impl From<String> for PublicKeyBox {
     ghost from_gives = { λ text b. b ≡ string_bytes text };
 

@@ -140,7 +140,8 @@ impl SecretKey {
         self.kdf_alg != KDF_NONE && !self.has_right_checksum()
     }
 
-    /// Returns true if the key names a key derivation, so that it needs a password. Does not allocate.
+    /// Returns true if the key names a key derivation, that is, if it was encrypted with a password. The
+    /// result is still true after decryption; `is_encrypted` returns false then. Does not allocate.
     pub fn wants_password(&self) -> bool
         ensures { result ≡ wants_password self.now }
     {
@@ -186,8 +187,9 @@ impl SecretKey {
 
     /// Returns the 158 bytes that `from_bytes` parses to this key. The only error is `OutOfMemory`.
     pub fn to_bytes(&self, alloc: Global) -> Result<Vec<u8>>
-        // On success, the bytes are those of the record. They parse to this record and, by the law
-        // `texts_are_decided`, to no other. The only error is out of memory.
+        // On success, the bytes are those of the record, and they parse to this record. By the law
+        // `texts_are_decided` in `src/texts.rt`, bytes parse to one record at most. The only error is out of
+        // memory.
         ensures bytes { IfOk result (λ v. v.items ≡ secret_key_bytes self.now) }
         ensures reads_back { IfOk result (λ v. read_secret_key_bytes v.items ≡ Ok self.now) }
         ensures only_out_of_memory { IfErr result (λ e. e ≡ Named OutOfMemory) }
@@ -212,8 +214,8 @@ impl SecretKey {
     /// Errors come in this order: no first line, no second line, a second line that is not base64, fewer
     /// than 158 bytes. Does not allocate.
     pub fn from_text(text: &str) -> Result<SecretKey>
-        // The result depends only on the text: it is the secret key in the text, encrypted or not, as the
-        // grammar defines it, or the error of the first check that fails.
+        // The result depends only on the text: it is the secret key in the text, encrypted or not, as
+        // `specs/KeyTexts` defines it, or the error of the first check that fails.
         ensures { result ≡ read_secret_key text.now }
     {
         let record = read_secret_key(text)?;
@@ -285,7 +287,8 @@ impl SecretKey {
         sk
     }
 
-    // Returns the key with scrypt as its key derivation and with this salt and these limits.
+    // Returns the key with scrypt as its key derivation and with this salt and these limits. If `self` is a
+    // key from `from_parts`, the result is the key that `specs/Generation` defines as the one to encrypt.
     #[tactic(auto, unfolding(crate::specs::Generation::key_to_seal))]
     pub(crate) fn with_limits(self, salt: [u8; 32], opslimit: u64, memlimit: u64) -> SecretKey
         ensures named { (keynum secret : List ℕ) → self ≡ unsealed_key keynum secret
@@ -317,8 +320,8 @@ impl Eq for SecretKey {
     ghost laws = { on_equiv (λ k. k.secret) nat_list_eq_equiv };
 }
 
-/// Prints the secret: its 64 bytes in lowercase hexadecimal, each without leading zeros, as the
-/// Rust crate does. Keep it out of logs.
+/// Prints the secret: its 64 bytes in lowercase hexadecimal, as the Rust crate `minisign` does. Each byte is
+/// written without a leading zero, so 0x05 is `5`. Keep the output out of logs.
 impl fmt::Debug for SecretKey {
     ghost use Rattle.minisign.specs.Records.{secret_text};
 

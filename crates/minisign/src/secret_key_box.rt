@@ -15,6 +15,7 @@ pub struct SecretKeyBox {
     text: String,
 }
 
+// In contracts, the value of a box is the bytes of its text.
 impl Model for SecretKeyBox {
     ghost use Rattle.std.specs.Prelude.{ℕ, List, string_bytes};
 
@@ -63,7 +64,7 @@ impl SecretKeyBox {
     }
 }
 
-/// Returns a box of this text. Does not allocate.
+/// Returns a box that holds this text. Does not allocate.
 impl From<String> for SecretKeyBox {
     ghost from_gives = { λ s b. b ≡ string_bytes s };
 

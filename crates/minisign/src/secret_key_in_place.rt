@@ -15,8 +15,8 @@ use minisign_base::{NamedFault, Result};
 /// Errors come in this order: no first line, no second line, a second line that is not base64, fewer than
 /// 158 bytes. Does not allocate.
 pub fn read_secret_key(text: &str) -> Result<[u8; 158]>
-    // The result depends only on the text: it is the bytes of the secret key in the text, as the grammar
-    // defines them, or the error of the first check that fails.
+    // The result depends only on the text: it is the bytes of the secret key in the text, as
+    // `specs/KeyTexts` defines them, or the error of the first check that fails.
     ensures { read_secret_key text.now ≡ map_ok secret_key_of_bytes result }
 {
     let mut lines = text.lines();

@@ -62,8 +62,9 @@ impl SignatureBones {
 
     /// Returns the 74 bytes that `from_bytes` parses to this signature. The only error is `OutOfMemory`.
     pub fn to_bytes(&self, alloc: Global) -> Result<Vec<u8>>
-        // On success, the bytes are those of the record. They parse to this record and, by the law
-        // `texts_are_decided`, to no other. The only error is out of memory.
+        // On success, the bytes are those of the record, and they parse to this record. By the law
+        // `texts_are_decided` in `src/texts.rt`, bytes parse to one record at most. The only error is out of
+        // memory.
         ensures bytes { IfOk result (λ v. v.items ≡ signature_bytes self.now) }
         ensures reads_back { IfOk result (λ v. ReadsSignature v.items self.now) }
         ensures len { IfOk result (λ v. vec_len v ≡ Self.BYTES) }

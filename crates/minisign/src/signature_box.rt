@@ -93,7 +93,7 @@ impl SignatureBox {
     /// the text was parsed.
     pub fn from_string(alloc: Global, text: &str) -> Result<SignatureBox>
         // The result is out of memory, or it depends only on the text: it is the signature box in the text,
-        // as the grammar defines it, or the error of the first check that fails.
+        // as `specs/SignatureText` defines it, or the error of the first check that fails.
         ensures { IsValueOrNoMemory result (read_signature_box text.now) }
     {
         read_text(alloc, text)

@@ -18,8 +18,8 @@ pub(crate) enum SignedData {
     Digest([u8; 64]),
     // Legacy: the data itself.
     Message(Vec<u8>),
-    // A legacy signature, although these are not allowed: nothing, because the signature will be rejected
-    // without a check of the data.
+    // A legacy signature that will be rejected, because legacy signatures are not allowed. No data is kept,
+    // because the signature is rejected without a check of the data.
     NoData,
 }
 

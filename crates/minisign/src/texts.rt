@@ -27,10 +27,10 @@ use std::str::Lines;
 /// contract.
 #[tactic(auto, using(crate::proofs::PublicKeyTexts::read_as, crate::proofs::PublicKeyTexts::bare_read_as, crate::proofs::SignatureTexts::read_as, crate::proofs::SecretKeyTexts::read_as, crate::proofs::SecretKeyTexts::bytes_read_as, crate::proofs::Openings::opened_as, crate::proofs::Openings::unencrypted_as))]
 pub fn texts_are_decided()
-    // The functions that parse a public key text, a bare base64 public key, a signature text, a secret key
-    // text or the bytes of a secret key give a value exactly if the grammar, which is a relation of texts
-    // and values, holds for the text and this value. For each text, the grammar holds for one value at most,
-    // and for none if the function gives an error.
+    // The grammars of a public key text, a bare base64 public key, a signature text, a secret key text and
+    // the bytes of a secret key are relations between texts and values: `PublicKeyText` and so on. The
+    // function that parses such a text returns a value exactly if the relation holds for the text and this
+    // value. So the relation holds for one value at most, and for none if the function returns an error.
     ensures public_key { (text : List ℕ) → IsReading (PublicKeyText text) (read_public_key text) }
     ensures bare_public_key { (text : List ℕ) → IsReading (BarePublicKey text) (read_bare_public_key text) }
     ensures signature { (text : List ℕ) → IsReading (SignatureText text) (read_signature text) }

@@ -38,6 +38,7 @@ writer_received_all p (Test refusal ∷ later) (between, (none, same), held) =
     subst (λ d. Appends (p.sink.taken d.writer) (p.sink.taken p.new.writer) (written later)) same
     (writer_received_all (record p { old = between }) later held)
 
+-- If the conversation succeeds, the error count of the writer is unchanged.
 pub held_no_new_fault : {R W : Type 0} (p : PromptCall R W) (steps : List Step)
     → ConversationEnds p steps (Ok tt)
     → p.sink.sink_faults p.new.writer ≡ p.sink.sink_faults p.old.writer

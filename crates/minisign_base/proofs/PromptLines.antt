@@ -40,6 +40,7 @@ line_length-append done more e =
     ∙ ap (λ t. cond t (length done + line_length more) (line_length done))
     (eq-eqb (line_length done) (length done) e)
 
+-- A byte other than a line feed makes the first line one byte longer.
 pub line_length-push : (done : List ℕ) (b : ℕ) → line_length done ≡ length done → b ≢ 10
     → line_length (done ++ b ∷ []) ≡ length done + 1
 line_length-push done b e other =
@@ -51,6 +52,7 @@ pub line_length-feed : (done rest : List ℕ) → line_length done ≡ length do
 line_length-feed done rest e =
     ap line_length (append_assoc done (10 ∷ []) rest) ∙ line_length-append done (10 ∷ rest) e ∙ omega arith
 
+-- If a line feed ends fewer than 1026 bytes, the password is the line before it, without a carriage return.
 pub password_of-feed : (done rest : List ℕ) → line_length done ≡ length done → length done < 1026
     → password_of ((done ++ 10 ∷ []) ++ rest) ≡ accepted_line (strip_carriage_return done)
 unfolding password_of first_line
@@ -70,6 +72,7 @@ password_of-feed done rest e short =
       front,
     ) refl
 
+-- If the input ends after fewer than 1026 bytes without a line feed, the password is all of them.
 pub password_of-end : (done : List ℕ) → line_length done ≡ length done → 0 < length done → length done < 1026
     → password_of done ≡ accepted_line done
 unfolding password_of first_line
@@ -83,6 +86,7 @@ password_of-end done e some short =
       take_all (length done) done (omega arith),
     ) refl
 
+-- If 1026 bytes contain no line feed, the password is too long.
 pub password_of-long : (done rest : List ℕ) → line_length done ≡ length done → length done ≡ 1026
     → password_of (done ++ rest) ≡ Err (Named PasswordTooLong)
 unfolding password_of
@@ -127,6 +131,7 @@ read_whole r done ahead unread count left no_new_fault = record {
   no_new_fault = no_new_fault;
 }
 
+-- If there is no input at all, there is no password.
 pub password_of-nothing : password_of [] ≡ Err (Named EndOfInput)
 unfolding password_of
 password_of-nothing = refl
@@ -143,11 +148,13 @@ accepted_line-other line other =
       | false ↦ λ e. refl
     ] refl
 
+-- A line of more than 1024 bytes is rejected.
 pub accepted_line-long : (line : List ℕ) → IsUtf8 line → 1024 < length line
     → accepted_line line ≡ Err (Named PasswordTooLong)
 unfolding accepted_line
 accepted_line-long line text long = rw (is_utf8-from_IsUtf8 line text, lt-ltb 1024 (length line) long) refl
 
+-- A line of UTF-8 with at most 1024 bytes is accepted.
 pub accepted_line-text : (line : List ℕ) → IsUtf8 line → length line ≤ 1024 → accepted_line line ≡ Ok line
 unfolding accepted_line
 accepted_line-text line text short = rw (is_utf8-from_IsUtf8 line text, le-ltb 1024 (length line) short) refl

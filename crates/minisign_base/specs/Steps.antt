@@ -1,5 +1,5 @@
--- Calls that run a list of steps and stop at the first step that fails. Each call has its own type of
--- steps, Step, and its own type of devices, D.
+-- Contracts of calls that run a list of steps and stop at the first step that fails. Each call has its own
+-- type of steps, Step, and its own type of devices, D.
 use Rattle.std.specs.Prelude.{◌≡◌, ◌⊎◌, ⊤, List, [], ◌∷◌, Result, Ok, Err, MatchResult}
 use Rattle.minisign_base.specs.Fault.{Fault, Named}
 use Rattle.minisign_base.specs.declared.faults.NamedFault.{NamedFault}
@@ -19,10 +19,10 @@ StepsEnd {D = D} Ends (step ∷ later) old new (Err e) =
     Ends step old new (Err e)
     ⊎ ((between : D) × Ends step old between (Ok tt) × StepsEnd Ends later between new (Err e))
 
--- The end of a step that has only one error: if the result is Ok, Done holds. Otherwise the error is `fault`,
--- and Failed holds.
+-- The result of a step that can fail with only one error, `fault`: if the result is Ok, Done holds. Otherwise
+-- the error is `fault`, and Failed holds.
 abbrev pub EndsWith : Type 0 → NamedFault → Type 0 → Result ⊤ Fault → Type 0
-EndsWith Done fault Failed answer = MatchResult answer (λ _. Done) (λ e. (e ≡ Named fault) × Failed)
+EndsWith Done fault Failed result = MatchResult result (λ _. Done) (λ e. (e ≡ Named fault) × Failed)
 
 -- The result of a call, with `tt` in place of the value that it returns on success.
 abbrev pub without_value : {T E : Type 0} → Result T E → Result ⊤ E

@@ -1,5 +1,5 @@
--- The toy scheme, for tests. It obeys the law of signature schemes and protects nothing: everybody
--- who has the public key can sign.
+-- The toy scheme, for tests. It obeys the law of signature schemes: it accepts the signatures that it makes.
+-- But it protects nothing: everybody who has the public key can sign.
 use Rattle.std.specs.Prelude.{ℕ, ◌+◌, ◌%◌, ◌==◌, ◌&&◌, ◌||◌, Bool, Option, Some, None, List, [], ◌∷◌, ◌++◌}
 use Rattle.std.specs.Prelude.{map, take, drop, replicate, bit_xor, if◌then◌else◌}
 use Rattle.std.specs.List.{list_any, range_with_len}

@@ -1,5 +1,5 @@
--- Proof that the toy scheme obeys the law of signature schemes: it accepts what it signed, whatever
--- its table is.
+-- Proof that the toy scheme obeys the law of signature schemes: it accepts every signature that it made,
+-- whatever its table is. The law is a field of the trait `Scheme`, so its proof is in specs/.
 use Rattle.std.proofs.Common.{◌≡◌, ℕ, Option, None, Some, List, ◌++◌, length, drop, ◌||◌, true, false, refl}
 use Rattle.std.proofs.Common.{arith}
 use Rattle.std.proofs.lemmas.List.{drop_at, length-replicate, length-take-le, take_at}
@@ -14,24 +14,28 @@ length-random_half : (z : Option (List ℕ)) → AreRandomBytes z → length (ra
 length-random_half None h = length-replicate {A = ℕ} 32 0
 length-random_half (Some z) h = length-take-le 32 z (omega (arith, h.1))
 
-tied_accepted : (seed m : List ℕ) (z : Option (List ℕ)) → IsBytes seed → length seed ≡ 32 → IsBytes m
-    → AreRandomBytes z
+-- Without a table, the scheme accepts the signature of a message with a seed under the public key of this
+-- seed, because the checked half of the signature is the one that it computes itself.
+accepts_own_signature_without_table : (seed m : List ℕ) (z : Option (List ℕ)) → IsBytes seed
+    → length seed ≡ 32 → IsBytes m → AreRandomBytes z
     → toy_accepts m (toy_public_of seed) (toy_signature_of m (seed ++ toy_public_of seed) z) ≡ true
-tied_accepted seed m z bytes len message nonce =
+accepts_own_signature_without_table seed m z bytes len message nonce =
     let random = random_half z in
     let size = length-random_half z nonce in
     let key = toy_public_of seed in
-    let tied = checked_half random (drop 32 (seed ++ key)) m in
-    rw (take_at random tied 32 size, drop_at random tied 32 size, drop_at seed key 32 len)
+    let checked = checked_half random (drop 32 (seed ++ key)) m in
+    rw (take_at random checked 32 size, drop_at random checked 32 size, drop_at seed key 32 len)
     ((bytes_eq-Decides (checked_half random key m) (checked_half random key m)).1 refl)
 
-pub own_accepted : (table : List Triple) (seed m : List ℕ) (z : Option (List ℕ)) → IsBytes seed
+-- With any table, the scheme accepts the signature of a message with a seed under the public key of this
+-- seed.
+pub accepts_own_signature : (table : List Triple) (seed m : List ℕ) (z : Option (List ℕ)) → IsBytes seed
     → length seed ≡ 32
     → IsBytes m → AreRandomBytes z
     → toy_accepts_with table m (toy_public_of seed) (toy_signature_of m (seed ++ toy_public_of seed) z) ≡ true
-own_accepted table seed m z bytes len message nonce =
+accepts_own_signature table seed m z bytes len message nonce =
     let key = toy_public_of seed in
     let signature = toy_signature_of m (seed ++ key) z in
-    rw (tied_accepted seed m z bytes len message nonce)
+    rw (accepts_own_signature_without_table seed m z bytes len message nonce)
     (elim (is_listed table m key signature) as (λ listed. (listed || true) ≡ true)
     [ true ↦ refl | false ↦ refl ])

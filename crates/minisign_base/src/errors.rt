@@ -1,4 +1,4 @@
-//! Errors: a kind and a text, and the conversions from the errors of std, of key derivation and of base64.
+//! The error type of the library, and the conversions from the errors of std, key derivation and base64.
 
 ghost use Rattle.std.specs.Prelude.{◌≡◌, Some, string_bytes};
 ghost use Rattle.minisign_base.specs.Fault.{Named, Custom, kind_of, name_of, text_of};
@@ -56,7 +56,7 @@ pub struct PError {
 /// A value or an error.
 pub type Result<T> = std::result::Result<T, PError>;
 
-// The representation of an error: a named error, or a kind with a text. The text is either constant
+// The meaning of an error: a named error, or a kind with a text. The text is either constant
 // (`StaticText`) or allocated (`OwnedText`).
 #[derive(Debug, Drop)]
 enum Meaning {

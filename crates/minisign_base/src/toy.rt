@@ -4,7 +4,7 @@ ghost use Rattle.std.specs.Prelude.{◌≡◌, ℕ, List, ◌++◌, Option, take
 ghost use Rattle.std.specs.Simd.Lanes.{zip2};
 ghost use Rattle.minisign_base.specs.Toy.{toy_public_of, fold_of, toy_signature_of, toy_accepts};
 ghost use Rattle.minisign_base.specs.Toy.{toy_accepts_with, is_listed};
-ghost use Rattle.minisign_base.specs.ToyLaw.{own_accepted};
+ghost use Rattle.minisign_base.specs.ToyLaw.{accepts_own_signature};
 
 use crate::scheme::Scheme;
 use std::simd::u8x32;
@@ -86,7 +86,7 @@ impl<'a> Scheme for ToyScheme<'a> {
             || is_tied(message, public_key, signature)
     }
 
-    ghost accepts_own = { λ s. own_accepted s.table.now };
+    ghost accepts_own = { λ s. accepts_own_signature s.table.now };
 }
 
 // Returns true if the table contains this triple.

@@ -1,3 +1,4 @@
+-- The lemmas that the proofs of minisign_c use.
 pub mod ListVerdicts
 pub mod ListedVerdicts
 pub mod MakingNumbers

@@ -2,8 +2,8 @@
 -- for C several times: it verifies the list, finds the entry, and compares the digest. The lemmas show that
 -- the error number at which it stops is strict_listed_number, the number of the verdict of the whole check.
 --
--- To verify the list, the application first calls `minisign_list_ask`, which returns the two signatures that
--- its scheme must check (the "questions"), and passes the two results to `minisign_list_verdict`.
+-- To verify the list, the application first calls `minisign_list_ask`, which returns the inputs of the two
+-- Ed25519 checks that it must make (the questions), and passes the two results to `minisign_list_verdict`.
 use Rattle.std.proofs.Common.{◌≡◌, ◌∙◌, ◌<◌, ◌≤◌, ◌+◌, ◌==◌, ◌&&◌, ℕ, Bool, true, false, if◌then◌else◌, List}
 use Rattle.std.proofs.Common.{[]}
 use Rattle.std.proofs.Common.{Option, Some, None, Result, Ok, Err, length, take, ap, sym, refl, arith, subst}
@@ -19,7 +19,7 @@ use Rattle.minisign.specs.SignatureText.{SignatureTextRecord, read_signature}
 use Rattle.minisign_external.specs.Numbers.{fault_number, is_answer, misuse_number, weak_number}
 use Rattle.minisign_external.specs.PublicKeys.{is_public_key, read_utf8, value_of}
 use Rattle.minisign_external.specs.Questions.{Answers, HoldsMessage, read_under}
-use Rattle.minisign_external.specs.States.{AreQuestions, asked_under, questions_of}
+use Rattle.minisign_external.specs.States.{AreQuestions, check_buffer_if_read, questions_for_text}
 use Rattle.minisign_external.specs.StrictCalls.{asked_number, asked_strictly, is_strict_text, number_with_key}
 use Rattle.minisign_external.specs.StrictCalls.{strict}
 use Rattle.minisign_external.specs.StrictCalls.{strict_read}
@@ -83,13 +83,13 @@ module _ (accepts : Verifier) (v : PublicKeyValue) (sig_text text : List ℕ) (n
   module _ (room : ℕ) (t : SignatureTextRecord) (read : read_utf8 read_signature sig_text ≡ Ok t)
       (fits : 64 + length t.comments.trusted ≤ room) where
     number_of_failed_ask : (r : Result SignatureTextRecord Fault) → read_under v false sig_text ≡ r
-        → 0 < asked_number (asked_strictly (is_strict_text v t) (asked_under r room))
-        → asked_number (asked_strictly (is_strict_text v t) (asked_under r room))
+        → 0 < asked_number (asked_strictly (is_strict_text v t) (check_buffer_if_read r room))
+        → asked_number (asked_strictly (is_strict_text v t) (check_buffer_if_read r room))
         ≡ strict_read v r (list_verdict_number strict_list)
     number_of_failed_ask (Ok u) is some =
         let both = sym read ∙ opened v sig_text u is in
         let same : t ≡ u = cc both in
-        let none : asked_number (asked_strictly (is_strict_text v t) (asked_under (Ok u) room))
+        let none : asked_number (asked_strictly (is_strict_text v t) (check_buffer_if_read (Ok u) room))
         ≡ (if is_strict_text v u then 0 else weak_number) =
         rw same (room_is_enough (is_strict_text v u) (nat_le (64 + length u.comments.trusted) room)
         (le-leb _ _ (subst (λ (x : SignatureTextRecord). 64 + length x.comments.trusted ≤ room) same fits)))
@@ -105,9 +105,9 @@ module _ (accepts : Verifier) (v : PublicKeyValue) (sig_text text : List ℕ) (n
         → n ≡ strict_read v (read_under v false sig_text) (list_verdict_number strict_list)
     failed_ask_number n public is some =
         let returned : n ≡ asked_number (asked_strictly (is_strict_text v t)
-        (asked_under (read_under v false sig_text) room)) =
+        (check_buffer_if_read (read_under v false sig_text) room)) =
         is ∙ ap (λ (b : Bool). asked_number (asked_strictly (is_strict_text v t)
-        (if b then asked_under (read_under v false sig_text) room else Err
+        (if b then check_buffer_if_read (read_under v false sig_text) room else Err
         (WrongUse PublicKeyNotRead)))) public in
         returned
         ∙ number_of_failed_ask (read_under v false sig_text) refl (subst (λ (k : ℕ). 0 < k) returned some)
@@ -124,9 +124,9 @@ module _ (accepts : Verifier) (v : PublicKeyValue) (sig_text text : List ℕ) (n
       (λ comment. and_then (check_list_name name comment) (λ _. Ok comment))))
       (strict_same accepts v sig_text text t read h))
 
--- If `first` and `second` are the scheme's results for the two questions about a list, they are the results
--- of the two signature checks on which the verdict on the list depends: of the digest of the list, and of
--- the message of the comment signature.
+-- If `first` and `second` are the scheme's results for the inputs of the two checks that `minisign_list_ask`
+-- returned, the verdict on the list depends on them: they are the results of checking the signature of the
+-- list's digest, and the comment signature.
 pub list_answered : (accepts : Verifier) (v : PublicKeyValue) (sig_text text room : List ℕ)
     (t : SignatureTextRecord) (q : Questions) → read_under v false sig_text ≡ Ok t → AreQuestions q room v t
     → q.digest ≡ blake2b_digest 64 text
@@ -134,7 +134,7 @@ pub list_answered : (accepts : Verifier) (v : PublicKeyValue) (sig_text text roo
     → second ≡ accepts (take q.message_len room) q.public_key q.comment_signature
     → Answers accepts v sig_text text first second
 list_answered accepts v sig_text text room t q opens are returned first second to_first to_second =
-    let p : Questions = questions_of v t in
+    let p : Questions = questions_for_text v t in
     let len : q.message_len ≡ p.message_len = ap (λ (x : Questions). x.message_len) are.questions in
     let holds = subst (λ (n : ℕ). HoldsMessage t.signature t.comments.trusted room n) len are.message in
     results_of_questions accepts v sig_text text room q.digest t p opens (refl, holds) returned first second
@@ -154,9 +154,9 @@ verified_of true false r l new n returned none = let is : n ≡ 3 = ap (λ p. p.
     (omega arith)
 verified_of false b r l new n returned none = let is : n ≡ 4 = ap (λ p. p.0) returned in absurd (omega arith)
 
-same_bytes : (b : Bool) → b ≡ true → ◌≡◌ {A = Result ⊤ Misuse} (if b then Ok tt else Err NotAsked) (Ok tt)
-same_bytes true h = refl
-same_bytes false h = cc h
+ok_if_true : (b : Bool) → b ≡ true → ◌≡◌ {A = Result ⊤ Misuse} (if b then Ok tt else Err NotAsked) (Ok tt)
+ok_if_true true h = refl
+ok_if_true false h = cc h
 
 -- If `minisign_list_verdict` returns 0, the list is marked as verified, and later calls accept `text`, whose
 -- digest it has, as its text.
@@ -268,6 +268,7 @@ pub record Found (l : ListValue) (x : Lookup) : Type 0 where
   pub entry : Entry
   pub found : found_entry l x.text long x.name ≡ Ok entry
 
+-- If the error number of finding an entry is 0, an entry was found.
 entry_found : (r : Result Entry (Refusal ListFault)) (text : List ℕ) (old new : EntryValue) (n line : ℕ)
     → ◌≡◌ {A = ℕ × (EntryValue × ℕ)} (n, (new, line)) (entry_outcome_number (entry_outcome r text old))
     → n ≡ 0
@@ -277,6 +278,7 @@ entry_found (Err r) text old new n line returned none =
     let is : n ≡ list_refusal r = ap (λ p. p.0) returned in absurd (omega
     (arith, is, none, refusal_positive r))
 
+-- If `minisign_list_find` returns 0, the lookup has found the entry.
 pub found_by_lookup : (l : ListValue) (x : Lookup) (long : Option LongDigest) → x.long ≡ long
     → (old new : EntryValue) (n line : ℕ)
     → ◌≡◌ {A = ℕ × (EntryValue × ℕ)} (n, (new, line)) (finding_number long l x.text x.name old) → n ≡ 0
@@ -305,15 +307,18 @@ data_of_found l x m verified f =
 
 -- == Success has the number 0 ==
 
+-- The error number of a verdict is 0 exactly if the verdict is success.
 pub listed_zero : (r : Result (List ℕ) (Refusal ListFault)) → (listed_number r == 0) ≡ is_ok r
 listed_zero (Ok c) = refl
 listed_zero (Err r) = some_number (list_refusal r) (refusal_positive r)
 
+-- The same if a weak key or signature, which has an error number of its own, is never accepted.
 strict_zero : (s : Bool) (r : Result (List ℕ) (Refusal ListFault)) → (s ≡ false → is_ok r ≡ false)
     → ((if s then listed_number r else weak_number) == 0) ≡ is_ok r
 strict_zero true r h = listed_zero r
 strict_zero false r h = sym (h refl)
 
+-- If the verdict on the list's signature is an error, the verdict of the whole check is an error.
 not_listed : (r : Result (List ℕ) Fault) (more : List ℕ → Result (List ℕ) ListFault)
     (rest : List ℕ → Result (List ℕ) (Refusal ListFault)) → is_ok r ≡ false
     → is_ok (go_on (of_lists (and_then (wrap_library_error r) more)) rest) ≡ false

@@ -1,5 +1,6 @@
--- Proves that the verdict of the calls for lists is `listed_verdict`, if all texts are UTF-8. The calls make
--- the checks one after another, and the definition chains them in another way.
+-- Proves that the verdict of the calls for lists is `listed_verdict`, if all texts are UTF-8. The calls and
+-- the definition make the same checks in the same order, but nest them differently: the calls make each check
+-- after the result of all earlier ones, and the definition makes all later checks inside an earlier one.
 use Rattle.std.proofs.Common.{◌≡◌, ◌∙◌, ◌==◌, ℕ, false, List, Option, Some, Result, Ok, Err, refl, ap}
 use Rattle.std.specs.Prelude.{⊤, is_ok}
 use Rattle.minisign_base.specs.Fault.{Fault}
@@ -67,30 +68,32 @@ module _ (name : Option (List ℕ)) (e : Result Entry ListFault) (m : List ℕ) 
 
 -- == The verdict on the list's signature ==
 
--- The result is the same, whether the scheme's checks are chained to the other checks or follow them
--- separately.
-tested : (j : Result ⊤ Fault) (t : SignatureTextRecord) (more : SignatureTextRecord → Result ⊤ Fault)
+-- Chaining with `and_then` is associative: the check of the key ID (j), the scheme's checks (more) and the
+-- trusted comment as the result can be grouped in both ways.
+and_then_is_associative : (j : Result ⊤ Fault) (t : SignatureTextRecord)
+    (more : SignatureTextRecord → Result ⊤ Fault)
     → texts.and_then (texts.and_then j (λ _. Ok t)) (λ (s : SignatureTextRecord).
     texts.and_then (more s) (λ _. Ok s.comments.trusted))
     ≡ texts.and_then (texts.and_then j (λ _. more t)) (λ _. Ok t.comments.trusted)
-tested (Ok _) t more = refl
-tested (Err e) t more = refl
+and_then_is_associative (Ok _) t more = refl
+and_then_is_associative (Err e) t more = refl
 
 module _ (accepts : Verifier) (key : PublicKeyRecord) (text : List ℕ) where
   -- The checks after parsing the signature file, as the calls make them.
-  abbrev called : Result SignatureTextRecord Fault → Result (List ℕ) Fault
-  called r = texts.and_then (texts.and_then r (λ t.
+  abbrev signature_in_calls : Result SignatureTextRecord Fault → Result (List ℕ) Fault
+  signature_in_calls r = texts.and_then (texts.and_then r (λ t.
       texts.and_then (judge_key key.keynum t.signature false) (λ _. Ok t))) (λ t.
       texts.and_then (judge_answers (accepts (signed_bytes (box_of t) text) key.key t.signature.signature)
       (accepts_comments accepts (key_of (value_of key)) (box_of t))) (λ _. Ok t.comments.trusted))
 
   -- The same checks in the definition.
-  abbrev defined : Result SignatureTextRecord Fault → Result (List ℕ) Fault
-  defined r = texts.and_then r (λ t.
+  abbrev signature_in_definition : Result SignatureTextRecord Fault → Result (List ℕ) Fault
+  signature_in_definition r = texts.and_then r (λ t.
       texts.and_then (judge accepts key (box_of t) text false) (λ _. Ok t.comments.trusted))
 
-  same_signature : (r : Result SignatureTextRecord Fault) → called r ≡ defined r
-  same_signature (Ok t) = tested (judge_key key.keynum t.signature false) t (λ (s : SignatureTextRecord).
+  same_signature : (r : Result SignatureTextRecord Fault) → signature_in_calls r ≡ signature_in_definition r
+  same_signature (Ok t) = and_then_is_associative (judge_key key.keynum t.signature false) t
+      (λ (s : SignatureTextRecord).
       judge_answers (accepts (signed_bytes (box_of s) text) key.key s.signature.signature)
       (accepts_comments accepts key (box_of s)))
   same_signature (Err e) = refl
@@ -99,42 +102,51 @@ module _ (accepts : Verifier) (key : PublicKeyRecord) (text : List ℕ) where
 
 module _ (accepts : Verifier) (pk_text sig_text : List ℕ) (x : Lookup) (long : LongDigest) (m : List ℕ) where
   -- The whole verdict as the calls compute it, from the results of parsing the public key and of the lookup.
-  abbrev with_key : Result PublicKeyRecord Fault → Result Entry ListFault
+  abbrev verdict_in_calls : Result PublicKeyRecord Fault → Result Entry ListFault
       → Result (List ℕ) (Refusal ListFault)
-  with_key key e = go_on (of_lists (wrap_library_error key)) (λ k.
-      in_calls (Some x.list_name) e m (called accepts k x.text (read_signature sig_text)))
+  verdict_in_calls key e = go_on (of_lists (wrap_library_error key)) (λ k.
+      in_calls (Some x.list_name) e m (signature_in_calls accepts k x.text (read_signature sig_text)))
 
   -- The whole verdict as the definition computes it.
-  abbrev of_key : Result PublicKeyRecord Fault → Result Entry ListFault → Result (List ℕ) (Refusal ListFault)
-  of_key key e = in_definition (Some x.list_name) e m (texts.and_then key (λ k.
-      defined accepts k x.text (read_signature sig_text)))
+  abbrev verdict_in_definition : Result PublicKeyRecord Fault → Result Entry ListFault
+      → Result (List ℕ) (Refusal ListFault)
+  verdict_in_definition key e = in_definition (Some x.list_name) e m (texts.and_then key (λ k.
+      signature_in_definition accepts k x.text (read_signature sig_text)))
 
-  same_key : (key : Result PublicKeyRecord Fault) (e : Result Entry ListFault) → with_key key e ≡ of_key key e
-  same_key (Ok k) e = ap (in_calls (Some x.list_name) e m)
+  same_verdict : (key : Result PublicKeyRecord Fault) (e : Result Entry ListFault)
+      → verdict_in_calls key e ≡ verdict_in_definition key e
+  same_verdict (Ok k) e = ap (in_calls (Some x.list_name) e m)
       (same_signature accepts k x.text (read_signature sig_text))
-      ∙ same_checks (Some x.list_name) e m (defined accepts k x.text (read_signature sig_text))
-  same_key (Err f) e = refl
+      ∙ same_checks (Some x.list_name) e m
+      (signature_in_definition accepts k x.text (read_signature sig_text))
+  same_verdict (Err f) e = refl
 
-  pub agree : x.long ≡ Some long → AreUtf8 pk_text sig_text x.text x.name
+  -- If all texts are UTF-8, the verdict of the calls, `listed_with`, is `listed_verdict`.
+  pub calls_agree_with_definition : x.long ≡ Some long → AreUtf8 pk_text sig_text x.text x.name
       → listed_with accepts (read_utf8 read_public_key pk_text) sig_text x m
       ≡ of_lists (listed_verdict accepts pk_text sig_text (Some x.list_name) long x.text x.name m)
   unfolding verdict listed_verdict
-  agree meant utf8 = rw (meant, utf8.key, utf8.signature, utf8.text, utf8.called)
-      (same_key (read_public_key pk_text) (listed_entry long x.text x.name))
+  calls_agree_with_definition has_long utf8 =
+      rw (has_long, utf8.key, utf8.signature, utf8.text, utf8.file_name)
+      (same_verdict (read_public_key pk_text) (listed_entry long x.text x.name))
 
-is_ok_of : (r : Result (List ℕ) ListFault) → is_ok (of_lists r) ≡ is_ok r
-is_ok_of (Ok comment) = refl
-is_ok_of (Err e) = refl
+-- Wrapping an error for programs in other languages keeps success and failure apart.
+is_ok_of_lists : (r : Result (List ℕ) ListFault) → is_ok (of_lists r) ≡ is_ok r
+is_ok_of_lists (Ok comment) = refl
+is_ok_of_lists (Err e) = refl
 
--- If all texts are UTF-8, the number is 0 exactly if the verdict of the definition is success.
-pub accepted_defined : (accepts : Verifier) (pk_text sig_text : List ℕ) (x : Lookup) (m : List ℕ) (n : ℕ)
+-- If all texts are UTF-8, the number n that the calls return is 0 exactly if `listed_verdict` is success, for
+-- the scheme that also rejects weak public keys and signatures.
+pub zero_exactly_if_accepted : (accepts : Verifier) (pk_text sig_text : List ℕ) (x : Lookup) (m : List ℕ)
+    (n : ℕ)
     → n ≡ number_with_key (read_utf8 read_public_key pk_text)
     (λ k. strict_listed_number accepts (value_of k) sig_text x m)
     → (long : LongDigest) → x.long ≡ Some long → AreUtf8 pk_text sig_text x.text x.name
     → (n == 0) ≡ is_ok (listed_verdict (strict accepts) pk_text sig_text
     (Some x.list_name) long x.text x.name m)
-accepted_defined accepts pk_text sig_text x m n is long meant utf8 =
+zero_exactly_if_accepted accepts pk_text sig_text x m n is long has_long utf8 =
     ap (λ (k : ℕ). k == 0) is
     ∙ accepted_listed accepts sig_text x m (read_utf8 read_public_key pk_text)
-    ∙ ap is_ok (agree (strict accepts) pk_text sig_text x long m meant utf8)
-    ∙ is_ok_of (listed_verdict (strict accepts) pk_text sig_text (Some x.list_name) long x.text x.name m)
+    ∙ ap is_ok (calls_agree_with_definition (strict accepts) pk_text sig_text x long m has_long utf8)
+    ∙ is_ok_of_lists
+    (listed_verdict (strict accepts) pk_text sig_text (Some x.list_name) long x.text x.name m)

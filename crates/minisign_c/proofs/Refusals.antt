@@ -31,6 +31,8 @@ read_error : (given : Result SecretKeyRecord Fault) (n : ℕ) → n ≡ reading_
 read_error (Ok key) n none some = absurd (omega arith)
 read_error (Err e) n returned some = (e, returned, refl)
 
+-- If opening an encrypted key returns a number other than 0, it is the number of an error of opening its key
+-- record.
 pub sealed_refusal : (v : UnopenedKeyValue) (password : List ℕ) (most_rows n : ℕ) (old new : SecretKeyValue)
     → is_read v ≡ true
     → (◌≡◌ {A = ℕ × SecretKeyValue} (n, new) (opened_outcome (opened_sealed v password most_rows) old)
@@ -47,6 +49,7 @@ sealed_refusal v password most_rows n old new was_read (inr (returned, derives))
     let (_, utf8, allowed) = derives in
     (Refused (Named OutOfMemory), ap (λ p. p.0) returned, inr (refl, (utf8, allowed)))
 
+-- The same for opening a key without a password.
 pub unsealed_refusal : (v : UnopenedKeyValue) (most_rows n : ℕ) (old new : SecretKeyValue)
     → is_read v ≡ true
     → ◌≡◌ {A = ℕ × SecretKeyValue} (n, new) (opened_outcome (opened_unsealed v) old)
@@ -57,6 +60,8 @@ unsealed_refusal v most_rows n old new was_read returned some =
     (rw was_read at returned) some in
     (Refused e, number, inl failed)
 
+-- If reading a secret key file returns a number other than 0, it is the number of an error of opening the
+-- file.
 pub reading_refusal : (text : List ℕ) (password : Option (List ℕ)) (most_rows n : ℕ)
     → n ≡ reading_number (read_utf8 read_secret_key text)
     → 0 < n → (r : Refusal Fault) × (n ≡ refusal_number fault_number r)

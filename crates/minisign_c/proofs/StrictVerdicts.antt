@@ -12,8 +12,9 @@ use Rattle.minisign.specs.Texts.{and_then}
 use Rattle.minisign_external.specs.Numbers.{fault_number, weak_number}
 use Rattle.minisign_external.specs.PublicKeys.{is_public_key, read_utf8, value_of}
 use Rattle.minisign_external.specs.Questions.{has_whole_signature, read_under, verdict_under}
-use Rattle.minisign_external.specs.States.{IsBlank, IsFedState, asked_under, asking_misuse, asking_under}
-use Rattle.minisign_external.specs.States.{may_ask, verdict_number, with_public_key}
+use Rattle.minisign_external.specs.States.{IsBlank, IsFedState, check_buffer_if_read, asking_misuse}
+use Rattle.minisign_external.specs.States.{result_of_asking_with_text}
+use Rattle.minisign_external.specs.States.{can_be_asked, verdict_number, with_public_key}
 use Rattle.minisign_external.specs.StrictCalls.{asked_number, asked_strictly, is_strict_text, number_with_key}
 use Rattle.minisign_external.specs.StrictCalls.{strict, strict_read, strict_verdict_number}
 use Rattle.minisign_external.specs.StrictEd25519.{is_strict_point, is_strict_signature}
@@ -141,12 +142,14 @@ accepted_with accepts text message (Err e) = some_number (fault_number e) (posit
 
 -- == Errors of asking ==
 
+-- If the buffer is long enough, the only possible error is that of a weak key or signature.
 pub room_is_enough : (s b : Bool) → b ≡ true
     → asked_number (asked_strictly s (if b then Ok tt else Err (WrongUse NoRoom)))
     ≡ (if s then 0 else weak_number)
 room_is_enough s true h = refl
 room_is_enough s false h = cc h
 
+-- If the number for weak keys and signatures is not 0, it is the result, whatever the verdict is.
 pub weak_number_if_positive : (s : Bool) (n : ℕ) → 0 < (if s then 0 else weak_number)
     → (if s then 0 else weak_number) ≡ (if s then n else weak_number)
 weak_number_if_positive true n h = absurd (omega arith)
@@ -156,13 +159,13 @@ module _ (accepts : Verifier) (v : PublicKeyValue) (text message : List ℕ) (ro
     (t : SignatureTextRecord) (read : read_utf8 read_signature text ≡ Ok t)
     (fits : 64 + length t.comments.trusted ≤ room) where
   number_of_failed_ask : (r : Result SignatureTextRecord Fault) → read_under v false text ≡ r
-      → 0 < asked_number (asked_strictly (is_strict_text v t) (asked_under r room))
-      → asked_number (asked_strictly (is_strict_text v t) (asked_under r room))
+      → 0 < asked_number (asked_strictly (is_strict_text v t) (check_buffer_if_read r room))
+      → asked_number (asked_strictly (is_strict_text v t) (check_buffer_if_read r room))
       ≡ strict_read v r (verdict_number (verdict_under (strict accepts) v text message false))
   number_of_failed_ask (Ok u) is some =
       let both = sym read ∙ opened v text u is in
       let same : t ≡ u = cc both in
-      let none : asked_number (asked_strictly (is_strict_text v t) (asked_under (Ok u) room))
+      let none : asked_number (asked_strictly (is_strict_text v t) (check_buffer_if_read (Ok u) room))
       ≡ (if is_strict_text v u then 0 else weak_number) =
       rw same (room_is_enough (is_strict_text v u) (nat_le (64 + length u.comments.trusted) room)
       (le-leb _ _ (subst (λ (x : SignatureTextRecord). 64 + length x.comments.trusted ≤ room) same fits))) in
@@ -171,15 +174,17 @@ module _ (accepts : Verifier) (v : PublicKeyValue) (text message : List ℕ) (ro
 
   -- If asking a new state fails (`minisign_ask`), the verdict has the same error number.
   pub failed_ask_number : (s : State) (n : ℕ) → is_public_key v ≡ true → IsFedState s [] → IsBlank s
-      → n ≡ asked_number (asked_strictly (is_strict_text v t) (asking_under s v text false room)) → 0 < n
+      → n ≡ asked_number (asked_strictly (is_strict_text v t)
+      (result_of_asking_with_text s v text false room)) → 0 < n
       → n ≡ strict_verdict_number accepts v text message false
   failed_ask_number s n public fed blank is some =
-      let may : may_ask s ≡ true = rw (fed.mark, blank.asked) refl in
+      let may : can_be_asked s ≡ true = rw (fed.mark, blank.asked) refl in
       let returned : n ≡ asked_number (asked_strictly (is_strict_text v t)
-      (asked_under (read_under v false text) room)) =
+      (check_buffer_if_read (read_under v false text) room)) =
       is ∙ ap (λ (b : Bool). asked_number (asked_strictly (is_strict_text v t)
-      (if b then with_public_key v (asked_under (read_under v false text) room) else
+      (if b then with_public_key v (check_buffer_if_read (read_under v false text) room) else
       Err (WrongUse (asking_misuse s))))) may
       ∙ ap (λ (b : Bool). asked_number (asked_strictly (is_strict_text v t)
-      (if b then asked_under (read_under v false text) room else Err (WrongUse PublicKeyNotRead)))) public in
+      (if b then check_buffer_if_read (read_under v false text) room
+      else Err (WrongUse PublicKeyNotRead)))) public in
       returned ∙ number_of_failed_ask (read_under v false text) refl (subst (λ (k : ℕ). 0 < k) returned some)

@@ -48,12 +48,14 @@ failure_event n =
     if n == install_number TargetInUse then Some InUse
     else option_map (λ f. Failed f) (failure_of n)
 
--- The API misuse that prevents an installation from starting, if there is one: the options are rejected, or
--- else a public key was not read.
+-- The given API misuse. If there is none, the API misuse is PublicKeyNotRead, unless the public keys were
+-- read.
 abbrev pub first_misuse : Option Misuse → Bool → Option Misuse
 first_misuse (Some m) are_read = Some m
 first_misuse None are_read = if are_read then None else Some PublicKeyNotRead
 
+-- The API misuse that prevents an installation from starting, if there is one: the options are rejected, or
+-- else a public key was not read.
 abbrev pub starting_misuse : PublicKeyValue → PublicKeyValue → Choices → Option Misuse
 starting_misuse key other o = first_misuse (choices_misuse o) (is_public_key key && is_public_key other)
 
@@ -78,17 +80,18 @@ NumberReads sig_text file time old new n len_before len_after before after =
     → (r : Result ℕ (Refusal InstallFault)) × ReturnsLength r n len_before len_after
     × SignatureSteps sig_text time s r (Represents new) before after
 
--- The three buffers of the call that writes a question.
+-- The three buffers to which `minisign_install_question` writes the inputs of an Ed25519 check (a question).
 pub record Buffers : Type 0 where
   pub key : List ℕ
   pub signature : List ℕ
   pub digest : List ℕ
 
+-- The buffers with the inputs of this check.
 abbrev pub question_buffers : Question → Buffers
 question_buffers q = record { key = q.key; signature = q.signature; digest = q.digest }
 
--- The outcome of the call that writes a question: 0 and the question, or NotDue. After NotDue the buffers are
--- unchanged.
+-- The outcome of `minisign_install_question`: 0 and the inputs of the check that is due, or NotDue if no
+-- check is due. After NotDue the buffers are unchanged.
 abbrev pub ReturnsQuestion : Option Question → ℕ → Buffers → Buffers → Type 0
 ReturnsQuestion (Some q) n old new = (n ≡ 0) × (new ≡ question_buffers q)
 ReturnsQuestion None n old new = (n ≡ misuse_number NotDue) × (new ≡ old)
@@ -105,6 +108,8 @@ abbrev pub ReturnsVersionIf : Bool → Result ℕ InstallFault → ℕ → ℕ �
 ReturnsVersionIf true judged n old new = ReturnsVersion judged n old new
 ReturnsVersionIf false judged n old new = (n ≡ misuse_number BadNumbering) × (new ≡ old)
 
+-- The outcome of checking the trusted comment of an update of the file, at this time, if `least` is the least
+-- version number that is accepted.
 abbrev pub ReturnsVersionOf : List ℕ → List ℕ → ℕ → ℕ → ℕ → ℕ → ℕ → ℕ → Type 0
 ReturnsVersionOf comment file numbering time least n old new =
     ReturnsVersionIf (nat_le numbering 1) (judge_comment file (numbering_of numbering) time least comment) n

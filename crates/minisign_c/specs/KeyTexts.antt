@@ -47,6 +47,8 @@ abbrev pub first_misuse : Option Misuse → Option Misuse → Option Misuse
 first_misuse (Some m) more = Some m
 first_misuse None more = more
 
+-- The API misuse in the arguments for encrypting a key: that in the password arguments, or else WeakSealing
+-- if the key is to be encrypted and the salt or a limit is weak.
 abbrev pub sealing_misuse : ℕ → List ℕ → Sealing → Option Misuse
 sealing_misuse with_password password s = first_misuse (password_misuse with_password password)
     (if not (with_password == 0) && is_weak s then Some WeakSealing else None)

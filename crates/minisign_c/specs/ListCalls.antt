@@ -1,6 +1,6 @@
 -- The calls for lists: their results as numbers, and the structs after them. To ask a list about a key and a
--- signature file means to get the two signatures that the caller's scheme must check (the questions), with
--- `minisign_list_ask` or `minisign_list_ask_any`.
+-- signature file means to get the inputs of the two Ed25519 checks that the caller must make (the questions),
+-- with `minisign_list_ask` or `minisign_list_ask_any`.
 use Rattle.std.specs.Prelude.{◌≡◌, ⊤, ◌==◌, ◌&&◌, ℕ, false, List, Option, Some, None, Result, Ok, Err}
 use Rattle.std.specs.Prelude.{MatchOption}
 use Rattle.std.specs.Prelude.{if◌then◌else◌}
@@ -9,7 +9,7 @@ use Rattle.minisign.specs.SignatureText.{SignatureTextRecord}
 use Rattle.minisign_external.specs.Numbers.{IsAnswer, IsKindOf, answer_yes, is_answer, kind_number}
 use Rattle.minisign_external.specs.Numbers.{misuse_number, refusal_number}
 use Rattle.minisign_external.specs.Questions.{Answers, read_under}
-use Rattle.minisign_external.specs.States.{AreQuestions, asked_under, with_public_key}
+use Rattle.minisign_external.specs.States.{AreQuestions, check_buffer_if_read, with_public_key}
 use Rattle.minisign_external.specs.declared.state.Questions.{Questions}
 use Rattle.minisign_hash.specs.Blake2b.{blake2b_digest}
 use Rattle.minisign_external.specs.StrictCalls.{asked_number, asked_strictly, is_strict_text}
@@ -62,15 +62,15 @@ list_result (Err r) = list_refusal r
 abbrev pub asking_list_number : PublicKeyValue → List ℕ → SignatureTextRecord → ℕ → ℕ
 asking_list_number v sig_text t room =
     asked_number (asked_strictly (is_strict_text v t)
-    (with_public_key v (asked_under (read_under v false sig_text) room)))
+    (with_public_key v (check_buffer_if_read (read_under v false sig_text) room)))
 
--- q holds the questions about the key and the parsed signature file, with the digest of the list. The bytes
--- begin with the message of the second question.
+-- q holds the questions for the key and the parsed signature file, with the digest of the list. The bytes
+-- begin with the message of the second check.
 abbrev pub AreListQuestions : Questions → List ℕ → PublicKeyValue → SignatureTextRecord → List ℕ → Type 0
 AreListQuestions q bytes v t text = AreQuestions q bytes v t × (q.digest ≡ blake2b_digest 64 text)
 
--- The list was asked about this key, this signature file, its name (if one is given) and its text, and the
--- two numbers are the scheme's results for the two questions.
+-- The list was asked about this key, this signature file, its name (if one is given) and its text, and
+-- `first` and `second` are the numbers for the results of the two checks with the scheme.
 pub record IsAnsweredList (l : ListValue) (accepts : Verifier) (v : PublicKeyValue) (sig_text : List ℕ)
     (name : Option (List ℕ)) (text : List ℕ)
     (first second : ℕ) : Type 0 where
@@ -84,6 +84,7 @@ abbrev pub list_verdict_number : Result (List ℕ) ListFault → ℕ
 list_verdict_number (Ok trusted) = 0
 list_verdict_number (Err e) = list_number e
 
+-- Replaces the result of a call by its number.
 abbrev pub numbered_list : Result ⊤ (Refusal ListFault) × ListValue → ℕ × ListValue
 numbered_list p = (list_result p.0, p.1)
 
@@ -102,6 +103,7 @@ abbrev pub found_number : Result ⊤ (Refusal ListFault) → EntryValue → ℕ 
 found_number (Ok t) entry = (0, (entry, 0))
 found_number (Err r) entry = (list_refusal r, (entry, line_at_fault r))
 
+-- The same for the result and the entry as a pair.
 abbrev pub entry_outcome_number : Result ⊤ (Refusal ListFault) × EntryValue → ℕ × (EntryValue × ℕ)
 entry_outcome_number p = found_number p.0 p.1
 
@@ -120,6 +122,7 @@ abbrev pub entries_number : Result ℕ (Refusal ListFault) → List EntryValue �
 entries_number (Ok n) to count = (0, (to, (n, 0)))
 entries_number (Err r) to count = (list_refusal r, (to, (count, line_at_fault r)))
 
+-- The same for the result and the buffer as a pair.
 abbrev pub entries_outcome_number : Result ℕ (Refusal ListFault) × List EntryValue → ℕ
     → ℕ × (List EntryValue × (ℕ × ℕ))
 entries_outcome_number p count = entries_number p.0 p.1 count
@@ -139,6 +142,7 @@ abbrev pub appended_number : Result ℕ (Refusal ListFault) → List ℕ → ℕ
 appended_number (Ok n) buffer len = (0, (buffer, n))
 appended_number (Err r) buffer len = (list_refusal r, (buffer, len))
 
+-- The same for the result and the buffer as a pair.
 abbrev pub append_outcome_number : Result ℕ (Refusal ListFault) × List ℕ → ℕ → ℕ × (List ℕ × ℕ)
 append_outcome_number p len = appended_number p.0 p.1 len
 

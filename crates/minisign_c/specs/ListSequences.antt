@@ -29,6 +29,7 @@ pub record Lookup : Type 0 where
   pub long : Option LongDigest
   pub name : List ℕ
 
+-- The lookup with the number with which the caller chooses this hash function.
 abbrev pub lookup_of : List ℕ → List ℕ → ℕ → List ℕ → Lookup
 lookup_of list_name text long_digest name =
     record { list_name = list_name; text = text; long = long_numbered long_digest; name = name }
@@ -38,7 +39,7 @@ pub record AreUtf8 (pk_text sig_text list name : List ℕ) : Type 0 where
   pub key : is_utf8 pk_text ≡ true
   pub signature : is_utf8 sig_text ≡ true
   pub text : is_utf8 list ≡ true
-  pub called : is_utf8 name ≡ true
+  pub file_name : is_utf8 name ≡ true
 
 -- The hash function of 128 digits, or BadHash if the caller passed an unknown number.
 abbrev pub meaning_of : Option LongDigest → Result LongDigest (Refusal ListFault)

@@ -6,7 +6,7 @@ ghost use Rattle.minisign_external.specs.Numbers.{answer_yes, is_answer, misuse_
 ghost use Rattle.minisign_external.specs.declared.state.Misuse.TheVariants.{BadAnswer, NoRoom, NotDue};
 ghost use Rattle.minisign_install.specs.Installations.{Represents, error_number, operation_of, options_by};
 ghost use Rattle.minisign_install.specs.Installations.{IsNewRecord, piece_event, question_due, record_due};
-ghost use Rattle.minisign_install.specs.Installations.{written_if};
+ghost use Rattle.minisign_install.specs.Installations.{IsWrittenIf};
 ghost use Rattle.minisign_install.specs.Step.{Answered, Done, PieceCopied, RecordRead, State, TargetMissing};
 ghost use Rattle.minisign_install.specs.Step.{ListRead, begin, line_at_fault, step};
 ghost use Rattle.minisign_c.specs.InstallCalls.{NumberReads, NumberSteps, ReturnsQuestion, ReturnsVersionOf};
@@ -180,8 +180,7 @@ pub extern "C" fn minisign_install_no_target(installation: &mut Installation) ->
     number_of(installation.no_target())
 }
 
-/// Reports the signature file and the time, and writes the message of the question about the trusted
-/// comment.
+/// Reports the signature file and the time, and writes the message of the check of the trusted comment.
 #[unsafe(no_mangle)]
 pub extern "C" fn minisign_install_signature(
     installation: &mut Installation,
@@ -234,9 +233,9 @@ pub extern "C" fn minisign_install_list(
     number_of(installation.list(list, name))
 }
 
-/// Writes the question for Ed25519 that is due: a public key, a signature, and the digest for which the
-/// signature is to be verified. For the question about the trusted comment, the digest is zeros, because
-/// `minisign_install_signature` has already written its message.
+/// Writes the inputs of the Ed25519 check that is due (the question): a public key, a signature, and the
+/// digest for which the signature is to be verified. For the check of the trusted comment, the digest is
+/// zeros, because `minisign_install_signature` has already written its message.
 #[unsafe(no_mangle)]
 pub extern "C" fn minisign_install_question(
     installation: &Installation,
@@ -244,7 +243,7 @@ pub extern "C" fn minisign_install_question(
     signature: &mut [u8; 64],
     digest: &mut [u8; 64],
 ) -> u32
-    // If the installation represents a state, the question is the one that is due. If none is due,
+    // If the installation represents a state, the inputs are those of the check that is due. If none is due,
     // the result is `NotDue`, and nothing is written.
     ensures asked { (s : State) → Represents installation.now s → ReturnsQuestion (question_due s) result
         (record { key = key.old; signature = signature.old; digest = digest.old })
@@ -329,7 +328,7 @@ pub extern "C" fn minisign_install_record_text(
     // it. It parses to the version number, the key and the digest that the run records. If none is due, or
     // it is longer than the buffer, the result is 0, and nothing is written.
     ensures written { (s : State) → Represents installation.now s
-        → written_if (record_due s) result text.old text.new }
+        → IsWrittenIf (record_due s) result text.old text.new }
     ensures reads_back { (s : State) → Represents installation.now s → 0 < result
         → IsNewRecord s (take result text.new) }
     // The rest of the buffer is unchanged, in every case.

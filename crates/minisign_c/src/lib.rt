@@ -41,14 +41,14 @@ ghost use Rattle.minisign_external.specs.declared.state.Misuse.TheVariants.{BadA
 ghost use Rattle.minisign_external.specs.declared.state.Misuse.TheVariants.{EntryNotRead, NotBegun};
 ghost use Rattle.minisign_external.specs.declared.state.Misuse.TheVariants.{KeyNotRead, NoRoom};
 ghost use Rattle.minisign_external.specs.declared.state.Misuse.TheVariants.{PublicKeyNotRead};
-ghost use Rattle.minisign_external.specs.States.{AreQuestionsWithoutDigest, GivesNumber, HasAsked};
-ghost use Rattle.minisign_external.specs.States.{HasReturnedDigest, HoldsCommentMessage, asked_about};
-ghost use Rattle.minisign_external.specs.States.{IsAnswered};
-ghost use Rattle.minisign_external.specs.States.{IsBlank, IsFedState, IsMarkedFed, IsMarkedFinalized};
-ghost use Rattle.minisign_external.specs.States.{KeepsQuestions};
-ghost use Rattle.minisign_external.specs.States.{asking_under, comment_number, feeding_misuse};
+ghost use Rattle.minisign_external.specs.States.{AreQuestionsWithoutDigest, GivesNumber, WasAskedAbout};
+ghost use Rattle.minisign_external.specs.States.{HasReturnedDigest, HoldsCommentMessage, state_after_asking};
+ghost use Rattle.minisign_external.specs.States.{IsAnswered, IsBlank, IsFedState, IsMarkedFed};
+ghost use Rattle.minisign_external.specs.States.{IsMarkedFinalized, KeepsQuestions};
+ghost use Rattle.minisign_external.specs.States.{result_of_asking_with_text, comment_number, feeding_misuse};
 ghost use Rattle.minisign_external.specs.States.{result_number, verdict_outcome_number, verdict_number};
-ghost use Rattle.minisign_external.specs.Bare.{AnswersBare, HasAskedBare, bare_verdict_under, judged_number};
+ghost use Rattle.minisign_external.specs.Bare.{AnswersBare, WasAskedAboutBare, bare_verdict_under};
+ghost use Rattle.minisign_external.specs.Bare.{judged_number};
 ghost use Rattle.minisign_external.specs.Bare.{bare_asking_outcome_number, bare_verdict_outcome_number};
 ghost use Rattle.minisign_external.specs.ValueRecords.{public_key_in, public_key_record, read_bare_value};
 ghost use Rattle.minisign_external.specs.ValueRecords.{secret_key_record, signature_record};
@@ -58,7 +58,7 @@ ghost use Rattle.minisign_external.specs.ValueRecords.{written_public_key};
 ghost use Rattle.minisign.specs.Records.{SignatureRecord};
 ghost use Rattle.minisign_external.specs.StrictCalls.{asked_number, asked_strictly, strict_asking_number};
 ghost use Rattle.minisign_external.specs.StrictCalls.{is_strict_text, is_strict_value};
-ghost use Rattle.minisign_external.specs.States.{asking_checks, questions_about};
+ghost use Rattle.minisign_external.specs.States.{check_ask_arguments, questions_for_value};
 ghost use Rattle.minisign_install.specs.Faults.{IsErrorText};
 ghost use Rattle.minisign_c.specs.ListCalls.{IsCallKind, IsCallMeaning, all_entries_number};
 ghost use Rattle.minisign_c.specs.ListCalls.{appending_number, finding_number, line_at_fault, list_result};
@@ -180,8 +180,8 @@ pub extern "C" fn minisign_init(state: &mut State)
 /// Feeds the next bytes of the data.
 #[unsafe(no_mangle)]
 pub extern "C" fn minisign_update(state: &mut State, piece: &[u8]) -> u32
-    // On success, the piece is appended to the data that the state was fed. The record of the questions that
-    // were asked is unchanged. The call fails only if the digest was already returned, or if the state was
+    // On success, the piece is appended to the data that the state was fed. What the state records about
+    // being asked is unchanged. The call fails only if the digest was already returned, or if the state was
     // never initialized or was finished by a verdict. Then the result is the number of that error, and the
     // state is unchanged.
     ensures fed { (m : List ℕ) → IsFedState state.old m → (result ≡ 0)
@@ -198,9 +198,9 @@ pub extern "C" fn minisign_update(state: &mut State, piece: &[u8]) -> u32
 #[unsafe(no_mangle)]
 pub extern "C" fn minisign_digest(state: &mut State, digest: &mut [u8; 64]) -> u32
     // On success, the digest is the Blake2b digest (64 bytes) of all data that the state was fed, and the
-    // state accepts no more data. The record of the questions that were asked is unchanged. The call fails
-    // only if the digest was already returned, or if the state was never initialized or was finished by a
-    // verdict. Then the result is the number of that error, and the state and the digest are unchanged.
+    // state accepts no more data. What the state records about being asked is unchanged. The call fails only
+    // if the digest was already returned, or if the state was never initialized or was finished by a verdict.
+    // Then the result is the number of that error, and the state and the digest are unchanged.
     ensures digest { (m : List ℕ) → IsFedState state.old m
         → (result ≡ 0) × (digest.new ≡ blake2b_digest 64 m) × HasReturnedDigest state.new m }
     ensures questions_kept { KeepsQuestions state.old state.new }
@@ -325,22 +325,23 @@ pub extern "C" fn minisign_ask(
     // the text were parsed here and checked under this key.
     ensures text { (t : SignatureTextRecord) → IsReadFrom signature.now sig_text.now t → allow_legacy < 2
         → result ≡ asked_number (asked_strictly (is_strict_text key.now t)
-        (asking_under state.old key.now sig_text.now (allow_legacy == 1) (length message.old))) }
+        (result_of_asking_with_text state.old key.now sig_text.now (allow_legacy == 1)
+        (length message.old))) }
 
-    // **On success, if the signature was read from this text, `questions` holds the two questions about the
-    // key and the text, with zeros in place of the digest, and the message of the second question is at the
-    // start of the buffer. The state records that it was asked. The data that it was fed is unchanged.**
+    // **On success, if the signature was read from this text, `questions` holds the inputs of the two checks
+    // for the key and the text, with zeros in place of the digest, and the message of the second check is at
+    // the start of the buffer. The state records that it was asked. The data that it was fed is unchanged.**
     ensures asked { result ≡ 0 → (t : SignatureTextRecord) → IsReadFrom signature.now sig_text.now t
         → (read_under key.now (allow_legacy == 1) sig_text.now ≡ Ok t)
         × AreQuestionsWithoutDigest questions.new message.new
-        key.now t × HasAsked state.new key.now sig_text.now (allow_legacy == 1) }
+        key.now t × WasAskedAbout state.new key.now sig_text.now (allow_legacy == 1) }
     ensures fed { (m : List ℕ) → IsFedState state.old m → IsFedState state.new m }
 
     // On success, whatever the signature was read from: the state only records that it was asked about this
-    // signature, the questions are those about the key and the signature, and the message is the data
-    // signature followed by the trusted comment.
-    ensures state { result ≡ 0 → state.new ≡ asked_about state.old signature.now }
-    ensures questions { result ≡ 0 → questions.new ≡ questions_about key.now signature.now }
+    // signature, the questions are those for the key and the signature, and the message is the data signature
+    // followed by the trusted comment.
+    ensures state { result ≡ 0 → state.new ≡ state_after_asking state.old signature.now }
+    ensures questions { result ≡ 0 → questions.new ≡ questions_for_value key.now signature.now }
     ensures message { result ≡ 0 → HoldsCommentMessage signature.now sig_text.now message.new }
 
     // On success, if the signature was read from this text, neither the key nor a signature in the text is
@@ -432,12 +433,12 @@ pub extern "C" fn minisign_ask_bare(
     allow_legacy: u32,
     questions: &mut Questions,
 ) -> u32
-    // If the result is 0, `questions` holds the question about the key and the signature, with zeros in place
-    // of the digest and in the fields about a comment, and the state records that it was asked about a bare
-    // signature. Otherwise the state and the questions are unchanged, and the result is the number of the
-    // first error that applies: `allow_legacy` is above 1; the state was asked before or its digest returned,
-    // or it was never initialized; the public key was not read; the signature was not read; the key IDs
-    // differ; the signature is a legacy one and these are not allowed; the key or the signature is weak.
+    // If the result is 0, `questions` holds the inputs of the check for the key and the signature, with zeros
+    // in place of the digest and in the fields about a comment, and the state records that it was asked about
+    // a bare signature. Otherwise the state and the questions are unchanged, and the result is the number of
+    // the first error that applies: `allow_legacy` is above 1; the state was asked before or its digest
+    // returned, or it was never initialized; the public key was not read; the signature was not read; the key
+    // IDs differ; the signature is a legacy one and these are not allowed; the key or the signature is weak.
     ensures value { (result, state.new, questions.new)
         ≡ bare_asking_outcome_number state.old key.now signature.now allow_legacy questions.old }
 
@@ -445,7 +446,7 @@ pub extern "C" fn minisign_ask_bare(
     // and this signature.
     ensures fed { (m : List ℕ) → IsFedState state.old m → IsFedState state.new m }
     ensures asked { result ≡ 0
-        → HasAskedBare state.new key.now (signature_of_value signature.now) (allow_legacy == 1) }
+        → WasAskedAboutBare state.new key.now (signature_of_value signature.now) (allow_legacy == 1) }
 {
     if allow_legacy >= 2 {
         return Misuse::BadLegacyFlag.number();
@@ -464,7 +465,7 @@ pub extern "C" fn minisign_bare_verdict(state: &mut State, first: u32) -> u32
     // `first` is the result of the check: the result is 0 exactly if the bare signature is valid for the
     // message under the key. Otherwise it is the error number of the first check that fails.**
     ensures verdict { (v : PublicKeyValue) (s : SignatureRecord) (message : List ℕ) (legacy : Bool)
-        (accepts : Verifier) → HasAskedBare state.old v s legacy → IsMarkedFinalized state.old
+        (accepts : Verifier) → WasAskedAboutBare state.old v s legacy → IsMarkedFinalized state.old
         → IsAnswer first
         → AnswersBare accepts v s message (first == answer_yes)
         → result ≡ judged_number (bare_verdict_under accepts v s message legacy) }
@@ -921,14 +922,14 @@ pub extern "C" fn minisign_encode_public_key(
     }
 }
 
-/// Writes the message of the second question: the first signature followed by the trusted comment.
+/// Writes the message of the comment signature: the data signature followed by the trusted comment.
 #[unsafe(no_mangle)]
 pub extern "C" fn minisign_comment_message(
     first: &[u8; 64],
     trusted: &[u8],
     message: &mut [u8],
 ) -> u32
-    // On success, the first signature followed by the trusted comment is at the start of the buffer, and the
+    // On success, the data signature followed by the trusted comment is at the start of the buffer, and the
     // rest of the buffer is unchanged. The only error is a buffer that is too short; then it is unchanged.
     ensures message { result ≡ 0 → (64 + length trusted.now ≤ length message.new)
         × (take (64 + length trusted.now) message.new ≡ first.now ++ trusted.now) }
@@ -956,11 +957,12 @@ pub extern "C" fn minisign_signed_text(
     text_len: &mut usize,
 ) -> u32
     // **On success, the public key was read, and the signature file at the start of the buffer parses to a
-    // signature with exactly its key ID, these comments and these signatures. If a scheme made the two
-    // signatures, the file parses to the signature box that signing with this scheme makes. The file is a
-    // valid signature of a message under every public key that has this key ID and under which both
-    // signatures are valid. If the key is genuine, everything that the headline of docs/PROMISES.md says
-    // about signing holds for the file.**
+    // signature with exactly its key ID, these comments and these signatures. If these are the signatures
+    // that a scheme makes with a key for a message, the file parses to the same signature box as when the
+    // library signs the message with this key and scheme. The file is a valid signature of a message under
+    // every public key that has this key ID and under which both signatures are valid for the message. If the
+    // key is genuine (its secret is a seed followed by the seed's public key), statement 3 of the section
+    // "The headline" in docs/PROMISES.md holds for the file.**
     ensures text { result ≡ 0 → (is_public_key key.now ≡ true)
         × HoldsSignatureFile key.now.key_id
         (comments_of trusted.now untrusted.now) first.now second.now text.new
@@ -1014,15 +1016,15 @@ pub extern "C" fn minisign_list_ask(
     // not the one that it was read from; the key IDs differ; the signature is a legacy one; the buffer is too
     // short; the key or a signature is weak. If none of them applies, the result is 0.
     ensures number { result ≡ asked_number (asked_strictly (is_strict_value key.now signature.now)
-        (asking_checks key.now signature.now sig_text.now false (length message.old))) }
+        (check_ask_arguments key.now signature.now sig_text.now false (length message.old))) }
 
     // If the signature was read from this text, the result is the same as if the text were parsed here and
     // checked under this key.
     ensures text { (t : SignatureTextRecord) → IsReadFrom signature.now sig_text.now t
         → result ≡ asking_list_number key.now sig_text.now t (length message.old) }
 
-    // **On success, if the signature was read from this text, `questions` holds the two questions about the
-    // key and the text, with the digest of the list. `list` records this digest, whether the comment
+    // **On success, if the signature was read from this text, `questions` holds the inputs of the two checks
+    // for the key and the text, with the digest of the list. `list` records this digest, whether the comment
     // signature has at least 64 bytes, and whether the trusted comment names the list.**
     ensures asked { result ≡ 0 → (t : SignatureTextRecord) → IsReadFrom signature.now sig_text.now t
         → (read_under key.now false sig_text.now ≡ Ok t)
@@ -1030,11 +1032,11 @@ pub extern "C" fn minisign_list_ask(
         × (list.new ≡ asked_list key.now signature.now (Some list_name.now) text.now t.comments.trusted) }
 
     // On success, whatever the signature was read from: `list` records what it was asked about, the questions
-    // are those about the key and the signature, with the digest of the list, and the message is the data
+    // are those for the key and the signature, with the digest of the list, and the message is the data
     // signature followed by the trusted comment.
     ensures list { result ≡ 0 → (c : List ℕ) → comment_of signature.now sig_text.now ≡ Ok c
         → list.new ≡ asked_list key.now signature.now (Some list_name.now) text.now c }
-    ensures questions { result ≡ 0 → questions.new ≡ record (questions_about key.now signature.now)
+    ensures questions { result ≡ 0 → questions.new ≡ record (questions_for_value key.now signature.now)
         { digest = blake2b_digest 64 text.now } }
     ensures message { result ≡ 0 → HoldsCommentMessage signature.now sig_text.now message.new }
 
@@ -1075,7 +1077,7 @@ pub extern "C" fn minisign_list_ask_any(
     // The promises are those of `minisign_list_ask`, except that the name of the list is not checked: `list`
     // records for every trusted comment that it names the list.
     ensures number { result ≡ asked_number (asked_strictly (is_strict_value key.now signature.now)
-        (asking_checks key.now signature.now sig_text.now false (length message.old))) }
+        (check_ask_arguments key.now signature.now sig_text.now false (length message.old))) }
     ensures text { (t : SignatureTextRecord) → IsReadFrom signature.now sig_text.now t
         → result ≡ asking_list_number key.now sig_text.now t (length message.old) }
     ensures asked { result ≡ 0 → (t : SignatureTextRecord) → IsReadFrom signature.now sig_text.now t
@@ -1084,7 +1086,7 @@ pub extern "C" fn minisign_list_ask_any(
         × (list.new ≡ asked_list key.now signature.now None text.now t.comments.trusted) }
     ensures list { result ≡ 0 → (c : List ℕ) → comment_of signature.now sig_text.now ≡ Ok c
         → list.new ≡ asked_list key.now signature.now None text.now c }
-    ensures questions { result ≡ 0 → questions.new ≡ record (questions_about key.now signature.now)
+    ensures questions { result ≡ 0 → questions.new ≡ record (questions_for_value key.now signature.now)
         { digest = blake2b_digest 64 text.now } }
     ensures message { result ≡ 0 → HoldsCommentMessage signature.now sig_text.now message.new }
     ensures strict { result ≡ 0 → (t : SignatureTextRecord) → IsReadFrom signature.now sig_text.now t

@@ -38,7 +38,8 @@ use minisign_lists::values::{EntryValue, FileValue, ListValue};
 
 /// Checks the concatenated pieces against the entry of a name in a signed list, with a public key file and
 /// the signature file of the list, whose trusted comment must name the list. Returns the first error number
-/// other than 0 that a call returns, or else 0. `room` is a buffer for the message of the comment signature.
+/// other than 0 that a call returns, or else 0. `long_digest` is the number of the hash function for digests
+/// of 128 digits in lines that do not name one. `room` is a buffer for the message of the comment signature.
 /// It must have at least as many bytes as the signature file.
 pub fn check_listed_in_sequence<S: Scheme>(
     scheme: &S,
@@ -62,14 +63,16 @@ pub fn check_listed_in_sequence<S: Scheme>(
         strict_listed_number (S.accepts scheme.now) (value_of k) sig_text.now
         (lookup_of list_name.now list.now long_digest name.now) (joined pieces.now)) }
 
-    // **So the result is 0 exactly if the verdict on the data under its name is success for the scheme that
-    // in addition rejects weak public keys and signatures.**
+    // **So the result is 0 exactly if `listed_with` is success for the strict scheme, which rejects weak
+    // public keys and signatures, and otherwise accepts what the scheme accepts. `listed_with` is the verdict
+    // on the data as the entry of its name in the list.**
     ensures accepted { (result == 0) ≡ is_ok (listed_with (strict (S.accepts scheme.now))
         (read_utf8 read_public_key pk_text.now) sig_text.now
         (lookup_of list_name.now list.now long_digest name.now) (joined pieces.now)) }
 
-    // **If the two files, the list and the name are UTF-8 and `long_digest` is a valid number, this verdict
-    // is `listed_verdict`, which `verify_listed` of `minisign_lists` returns.**
+    // **If the two files, the list and the name are UTF-8 and `long_digest` is a valid number, the result is
+    // 0 exactly if `listed_verdict`, which `verify_listed` of `minisign_lists` returns, is success for the
+    // strict scheme.** The name of the list need not be UTF-8, because it is only compared as bytes.
     ensures verdict { (long : LongDigest) → long_numbered long_digest ≡ Some long
         → AreUtf8 pk_text.now sig_text.now list.now name.now
         → (result == 0) ≡ is_ok (listed_verdict (strict (S.accepts scheme.now)) pk_text.now sig_text.now
@@ -95,19 +98,19 @@ pub fn check_listed_in_sequence<S: Scheme>(
 
 /// States that the verdict of the calls for lists is that of `verify_listed`. This function is a law: it does
 /// nothing, and exists only for its contract.
-#[tactic(auto, using(crate::proofs::ListedVerdicts::agree))]
+#[tactic(auto, using(crate::proofs::ListedVerdicts::calls_agree_with_definition))]
 pub fn listed_verdicts_agree()
-    // If the two files, the list and the name are UTF-8, and the number that says which hash function
-    // digests of 128 digits belong to is valid, then `listed_with`, the verdict that
-    // `check_listed_in_sequence` returns as a number, equals `listed_verdict`: the trusted comment, or the
-    // error of the first check that fails.
+    // If the two files, the list and the name are UTF-8, and `long_digest`, the number of the hash function
+    // for digests of 128 digits, is valid, then `listed_with`, the verdict that `check_listed_in_sequence`
+    // returns as a number, equals `listed_verdict`: the trusted comment, or the error of the first check that
+    // fails.
     ensures { (accepts : Verifier) (pk_text sig_text : List ℕ) (x : Lookup) (long : LongDigest) (m : List ℕ)
         → x.long ≡ Some long → AreUtf8 pk_text sig_text x.text x.name
         → listed_with accepts (read_utf8 read_public_key pk_text) sig_text x m
         ≡ of_lists (listed_verdict accepts pk_text sig_text (Some x.list_name) long x.text x.name m) }
 {}
 
-// Checks the concatenated pieces with a public key that was read.
+// Does the rest of `check_listed_in_sequence` after reading the public key.
 fn check_under<S: Scheme>(
     scheme: &S,
     key: &PublicKeyValue,
@@ -132,7 +135,7 @@ fn check_under<S: Scheme>(
     check_file(&verified, list, long_digest, name, pieces)
 }
 
-// Verifies a list with a public key that was read.
+// Reads the signature file and verifies the list with it, under a public key that was read.
 fn verify_list<S: Scheme>(
     scheme: &S,
     key: &PublicKeyValue,
@@ -159,7 +162,8 @@ fn verify_list<S: Scheme>(
     )
 }
 
-// Verifies a list with a public key and a signature that were read.
+// Verifies a list with a public key and a signature that were read: asks for the inputs of the two Ed25519
+// checks, makes them, and passes in their results.
 fn verify_read<S: Scheme>(
     scheme: &S,
     key: &PublicKeyValue,
@@ -178,6 +182,7 @@ fn verify_read<S: Scheme>(
         (Some list_name.now) list.now)) }
     ensures verified { result ≡ 0 → text_check verified.new list.now ≡ Ok tt }
 {
+    // Does nothing when the program runs: it gives the prover a law that the contract needs.
     results_decide_verdict();
     let mut questions = Questions::none();
     let number = minisign_list_ask(
@@ -219,7 +224,7 @@ fn no_list() -> ListValue {
     }
 }
 
-// Returns a struct into which no entry was read.
+// Returns an empty struct for an entry.
 fn no_entry() -> EntryValue {
     EntryValue {
         mark: 0,
@@ -232,7 +237,8 @@ fn no_entry() -> EntryValue {
     }
 }
 
-// Checks the concatenated pieces against the entry of a name in a list that was verified.
+// Checks the concatenated pieces against the entry of a name in a list that was verified. The name of the
+// list is already checked, so the contract holds for every `list_name`.
 fn check_file(
     verified: &ListValue,
     list: &[u8],
@@ -253,7 +259,7 @@ fn check_file(
     check_data(&entry, pieces)
 }
 
-// Checks the concatenated pieces against an entry.
+// Checks that the concatenated pieces have the digest in an entry.
 fn check_data(entry: &EntryValue, pieces: &[&[u8]]) -> u32
     ensures { (d : ListedDigest) → entry_digest entry.now ≡ Ok d
         → result ≡ (if has_digest d (joined pieces.now) then 0 else list_number DigestMismatch) }

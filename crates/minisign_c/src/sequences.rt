@@ -1,6 +1,6 @@
 //! Makes the calls of `include/minisign.h` in the order in which an application makes them, so that
-//! contracts can state what the whole sequence does, however the data is split. No program calls these
-//! functions.
+//! contracts can state what the whole sequence does, however the data is split. The functions exist only for
+//! their contracts: no program calls them.
 
 ghost use Rattle.std.specs.Prelude.{option_copied, ◌≡◌, ◌==◌, ◌<◌, ◌≤◌, ◌+◌, ◌++◌, ℕ, List, [], None, Ok};
 ghost use Rattle.std.specs.Prelude.{false, true, drop, is_ok, length, take};
@@ -23,7 +23,7 @@ ghost use Rattle.minisign_external.specs.SecretKeys.{unopened_record};
 ghost use Rattle.minisign_external.specs.Signatures.{IsReadFrom};
 ghost use Rattle.minisign_external.specs.Signing.{HoldsSignedFile, IsSigningRefusal, IsPairOf};
 ghost use Rattle.minisign_external.specs.Signing.{joined};
-ghost use Rattle.minisign_external.specs.States.{AreQuestionsWithoutDigest, HasAsked, IsFedState};
+ghost use Rattle.minisign_external.specs.States.{AreQuestionsWithoutDigest, WasAskedAbout, IsFedState};
 ghost use Rattle.minisign_external.specs.States.{KeepsQuestions, verdict_number};
 ghost use Rattle.minisign_external.specs.StrictCalls.{VerifiesStrictlyForRecord, VerifiesStrictly};
 ghost use Rattle.minisign_external.specs.StrictCalls.{number_with_key};
@@ -69,8 +69,8 @@ pub fn verify_in_sequence<S: Scheme>(
     ensures number { result ≡ number_with_key (read_utf8 read_public_key pk_text.now) (λ k.
         strict_verdict_number (S.accepts scheme.now) (value_of k) sig_text.now (joined pieces.now) false) }
 
-    // **So the result is 0 exactly if the verdict is success for the scheme that in addition rejects weak
-    // public keys and signatures.**
+    // **So the result is 0 exactly if the verdict is success for the strict scheme, which rejects weak public
+    // keys and signatures, and otherwise accepts what the scheme accepts.**
     ensures accepted { (result == 0) ≡ is_ok (and_then (read_utf8 read_public_key pk_text.now) (λ k.
         verdict_under (strict (S.accepts scheme.now)) (value_of k) sig_text.now (joined pieces.now) false)) }
 {
@@ -103,7 +103,7 @@ fn verify_under<S: Scheme>(
     verify_read(scheme, key, &signature, sig_text, pieces, room)
 }
 
-// Returns a struct into which no signature was read.
+// Returns an empty struct for a signature.
 pub(crate) fn no_signature() -> SignatureValue {
     SignatureValue {
         mark: 0,
@@ -176,11 +176,11 @@ fn feed(state: &mut State, pieces: &[&[u8]]) -> u32
 fn answer<S: Scheme>(scheme: &S, state: &mut State, questions: &Questions, room: &[u8]) -> u32
     requires { questions.now.message_len ≤ length room.now }
     ensures { (v : PublicKeyValue) (text m : List ℕ) (t : SignatureTextRecord) → IsFedState state.old m
-        → HasAsked state.old v text false → read_under v false text ≡ Ok t
+        → WasAskedAbout state.old v text false → read_under v false text ≡ Ok t
         → AreQuestionsWithoutDigest questions.now room.now v
         t → result ≡ verdict_number (verdict_under (S.accepts scheme.now) v text m false) }
 {
-    // Does nothing when the program runs: it gives the prover a law that the contract needs.
+    // This call has no effect. It gives the prover a law that the contract needs.
     results_decide_verdict();
     let mut digest = [0u8; 64];
     let number = minisign_digest(state, &mut digest);
@@ -221,18 +221,19 @@ pub fn sign_in_sequence<S: Scheme>(
 ) -> u32
     requires { 64 + length trusted.now ≤ length room.old }
 
-    // **If the result is 0, the secret key file opens to a key. If that key consists of a seed and the seed's
-    // public key, and neither that public key nor the two signatures are weak, the signature file that was
-    // written verifies: the verdict on it and the concatenated data, under that public key, is the trusted
-    // comment, for the scheme that in addition rejects weak public keys and signatures. This holds for every
-    // scheme and for all data, however it is split.**
+    // **If the result is 0, the secret key file opens to a key, and the signature file that was written
+    // verifies under two conditions: the key consists of a seed and the seed's public key, and neither this
+    // public key nor one of the two signatures is weak. Verifies means that the verdict on the signature file
+    // and the concatenated data, under this public key, is the trusted comment. That verdict uses the strict
+    // scheme, which rejects weak public keys and signatures, and otherwise accepts what the scheme accepts.
+    // This holds for every scheme and for all data, however it is split.**
     ensures verifies { result ≡ 0 → (k : SecretKeyRecord) × (opened_by key_text.now ≡ Ok k)
         × VerifiesStrictlyForRecord S.Scheme scheme.now k (joined pieces.now) trusted.now
         (take text_len.new text.new) }
 
     // On success, the signature file contains the two signatures that the scheme makes with the key: the
-    // signature of the digest of the concatenated data, and the signature of the first signature followed by
-    // the trusted comment. The rest of the buffer is unchanged.
+    // signature of the digest of the concatenated data, and the signature of the concatenation of that
+    // signature and the trusted comment. The rest of the buffer is unchanged.
     ensures text { result ≡ 0 → (k : SecretKeyRecord) × (opened_by key_text.now ≡ Ok k)
         × HoldsSignedFile S.Scheme scheme.now (opened_key_value k.keynum k.secret)
         (comments_of trusted.now untrusted.now) (joined pieces.now) text.new text_len.new }
@@ -256,7 +257,7 @@ pub fn sign_in_sequence<S: Scheme>(
     )
 }
 
-// Returns a struct into which no public key was read.
+// Returns an empty struct for a public key.
 pub(crate) fn no_public_key() -> PublicKeyValue {
     PublicKeyValue {
         mark: 0,
@@ -265,7 +266,7 @@ pub(crate) fn no_public_key() -> PublicKeyValue {
     }
 }
 
-// Returns a struct that holds no open secret key.
+// Returns an empty struct for an open secret key.
 fn no_secret_key() -> SecretKeyValue {
     SecretKeyValue {
         mark: 0,
@@ -274,7 +275,7 @@ fn no_secret_key() -> SecretKeyValue {
     }
 }
 
-// Returns a struct into which no secret key was read.
+// Returns an empty struct for a secret key that will be read but not opened.
 fn no_unopened_key() -> UnopenedKeyValue {
     UnopenedKeyValue {
         mark: 0,
@@ -354,7 +355,7 @@ fn sign_with<S: Scheme>(
         (joined pieces.now) text.old r }
     ensures unchanged { 0 < result → (text.new ≡ text.old) × (text_len.new ≡ text_len.old) }
 {
-    // Does nothing when the program runs: it gives the prover a law that the clause `verifies` needs.
+    // This call has no effect. It gives the prover a law that the clause `verifies` needs.
     results_decide_verdict();
     let mut public_key = no_public_key();
     let number = public_half(key, &mut public_key);
@@ -416,7 +417,7 @@ fn sign_first<S: Scheme>(scheme: &S, key: &SecretKeyValue, digest: &[u8; 64]) ->
     scheme.signature(digest, &key.secret, None)
 }
 
-// Computes the scheme's signature of the first signature followed by the trusted comment.
+// Computes the scheme's signature of the concatenation of the first signature and the trusted comment.
 fn sign_second<S: Scheme>(
     scheme: &S,
     key: &SecretKeyValue,

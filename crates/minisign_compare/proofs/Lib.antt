@@ -1,0 +1,1 @@
+-- The proofs of minisign_compare need no lemmas.

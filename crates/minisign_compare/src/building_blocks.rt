@@ -121,11 +121,12 @@ fn feed(state: &mut Blake2b, cuts: &str, bytes: &[u8]) -> Result<(), Refusal>
 fn answer_scrypt(alloc: Global, line: &str, reply: &mut Reply) -> Result<(), Refusal> {
     let password = bytes_of(alloc, word(line, 5))?;
     let salt = bytes_of(alloc, word(line, 6))?;
-    answer_derived(alloc, line, (&password, &salt), reply)
+    answer_key(alloc, line, (&password, &salt), reply)
 }
 
-// Answers a request for a derived key.
-fn answer_derived(
+// Parses the parameters and the length of a derived key, and adds the key. `texts` are the password and the
+// salt.
+fn answer_key(
     alloc: Global,
     line: &str,
     texts: (&[u8], &[u8]),
@@ -135,12 +136,12 @@ fn answer_derived(
     let r = number_of(word(line, 2))?;
     let p = number_of(word(line, 3))?;
     let length = number_of(word(line, 4))?;
-    reply.returned_bytes("out", derived(alloc, texts, (n_log2, r, p), length));
+    reply.returned_bytes("out", derive_key(alloc, texts, (n_log2, r, p), length));
     Ok(())
 }
 
 // Derives a key of this length with these parameters.
-fn derived(
+fn derive_key(
     alloc: Global,
     (password, salt): (&[u8], &[u8]),
     (n_log2, r, p): (u8, u32, u32),
@@ -174,11 +175,11 @@ fn answer_load(alloc: Global, line: &str, reply: &mut Reply) -> Result<(), Refus
     Ok(())
 }
 
-// A clock that shows a fixed time, or cannot be read.
+// A clock that always shows the same time or, with `None`, cannot be read.
 #[derive(Drop)]
-struct Shows(Option<Duration>);
+struct FixedClock(Option<Duration>);
 
-impl Clock for Shows {
+impl Clock for FixedClock {
     fn monotonic(&self) -> io::Result<Duration> {
         self.since_1970()
     }
@@ -193,11 +194,11 @@ impl Clock for Shows {
 
 // Returns a clock that shows this number of seconds since 1970, or one that cannot be read if the
 // word begins with `-`.
-fn clock_of(word: &str) -> Result<Shows, Refusal> {
+fn clock_of(word: &str) -> Result<FixedClock, Refusal> {
     if word.starts_with("-") {
-        return Ok(Shows(None));
+        return Ok(FixedClock(None));
     }
-    Ok(Shows(Some(Duration::new(number_of(word)?, 0))))
+    Ok(FixedClock(Some(Duration::new(number_of(word)?, 0))))
 }
 
 fn answer_timestamp(line: &str, reply: &mut Reply) -> Result<(), Refusal> {
@@ -209,14 +210,17 @@ fn answer_timestamp(line: &str, reply: &mut Reply) -> Result<(), Refusal> {
     Ok(())
 }
 
-fn asked<R: Source, W: Sink>(alloc: Global, prompt: &mut Prompt<R, W>) -> minisign::Result<String> {
+fn ask_password<R: Source, W: Sink>(
+    alloc: Global,
+    prompt: &mut Prompt<R, W>,
+) -> minisign::Result<String> {
     get_password(alloc, prompt, "Password: ")
 }
 
 fn answer_password(alloc: Global, line: &str, reply: &mut Reply) -> Result<(), Refusal> {
     let typed = typed_lines_of(alloc, word(line, 1))?;
     let mut prompt = typed_prompt(alloc, &typed);
-    let password = asked(alloc, &mut prompt);
+    let password = ask_password(alloc, &mut prompt);
     reply.end_prompt(alloc, prompt);
     reply.returned_text("out", password);
     Ok(())

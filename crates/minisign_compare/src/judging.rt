@@ -26,7 +26,7 @@ pub fn answer_sign(
     sign_with_comments(alloc, table, line, (&data, &random), reply)
 }
 
-// Parses the comments, and signs the data with random bytes.
+// Parses the comments, and signs. `given` is the data and the random bytes.
 fn sign_with_comments(
     alloc: Global,
     table: &Table,
@@ -41,7 +41,7 @@ fn sign_with_comments(
     sign_with_keys(alloc, table, line, given, comments, unix_time, reply)
 }
 
-// Parses the keys, and signs.
+// Parses the keys, and signs. `comments` is the trusted comment and the untrusted one.
 fn sign_with_keys(
     alloc: Global,
     table: &Table,
@@ -59,7 +59,7 @@ fn sign_with_keys(
     Ok(())
 }
 
-// Signs the data with random bytes, and adds the fields.
+// Signs the data, and adds the fields of the result.
 fn sign_data(
     alloc: Global,
     triples: &[Triple<'_>],
@@ -71,7 +71,7 @@ fn sign_data(
 ) {
     let mut source = data.source();
     let mut random = CountedRandom::new(bytes);
-    let signed = signed(
+    let signed = call_sign(
         alloc,
         triples,
         keys,
@@ -86,7 +86,7 @@ fn sign_data(
 }
 
 // Calls the library to sign.
-fn signed(
+fn call_sign(
     alloc: Global,
     triples: &[Triple<'_>],
     (pk, sk): (Option<&PublicKey>, &SecretKey),
@@ -124,7 +124,7 @@ pub fn answer_verify(
     judge_box(alloc, table, (&pk, &signature_box), line, reply)
 }
 
-// Verifies with a key, a box and the other words of the request.
+// Verifies a box with a public key and the other words of the request.
 fn judge_box(
     alloc: Global,
     table: &Table,
@@ -146,7 +146,7 @@ fn flags_of(line: &str) -> Result<(bool, bool, bool), Refusal> {
     Ok((quiet, output, flag_of(word(line, 6))?))
 }
 
-// Verifies the data, and adds the fields.
+// Verifies the data, and adds the fields of the result.
 fn judge_data(
     alloc: Global,
     triples: &[Triple<'_>],
@@ -158,7 +158,7 @@ fn judge_data(
     let mut source = data.source();
     let mut status = VecSink::new(alloc);
     let mut out = VecSink::new(alloc);
-    let verdict = verified(
+    let verdict = call_verify(
         alloc,
         triples,
         texts,
@@ -176,7 +176,7 @@ fn judge_data(
 }
 
 // Calls the library to verify.
-fn verified(
+fn call_verify(
     alloc: Global,
     triples: &[Triple<'_>],
     (pk, signature_box): (&PublicKey, &SignatureBox),

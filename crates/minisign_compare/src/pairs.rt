@@ -29,23 +29,23 @@ pub fn answer(
     line: &str,
     reply: &mut Reply,
 ) -> Result<(), Refusal> {
-    let numbers = numbers_of(request);
-    let pk_sink = SinkWord::read(given(line, numbers[0]))?;
-    let sk_sink = SinkWord::read(given(line, numbers[1]))?;
+    let positions = word_positions(request);
+    let pk_sink = SinkWord::read(word_or_dash(line, positions[0]))?;
+    let sk_sink = SinkWord::read(word_or_dash(line, positions[1]))?;
     let random = random_bytes(alloc, word(line, 1))?;
-    let typed = typed_lines_of(alloc, given(line, numbers[4]))?;
+    let typed = typed_lines_of(alloc, word_or_dash(line, positions[4]))?;
     let devices = Devices {
         random: CountedRandom::new(&random),
         prompt: typed_prompt(alloc, &typed),
         pk_sink: pk_sink.sink(alloc),
         sk_sink: sk_sink.sink(alloc),
     };
-    answer_over(alloc, request, line, devices, reply)
+    answer_with_devices(alloc, request, line, devices, reply)
 }
 
-// Returns the positions of a request's words: two sinks, a comment, a password and typed lines. The
-// position of a word that the request does not have is 0.
-fn numbers_of(request: &PairRequest) -> &'static [usize; 5] {
+// Returns the positions of five words of a request: the two sinks, the comment, the password and the typed
+// lines. The position is 0 if the request has no such word.
+fn word_positions(request: &PairRequest) -> &'static [usize; 5] {
     match request {
         PairRequest::Plain => &[0, 0, 0, 0, 0],
         PairRequest::Sealed => &[0, 0, 0, 2, 3],
@@ -54,33 +54,34 @@ fn numbers_of(request: &PairRequest) -> &'static [usize; 5] {
     }
 }
 
-// Returns the word at this position, or `-`.
-fn given(line: &str, number: usize) -> &str {
-    match number {
+// Returns the word at this position, or `-` if the position is 0.
+fn word_or_dash(line: &str, position: usize) -> &str {
+    match position {
         0 => "-",
-        number => word(line, number),
+        position => word(line, position),
     }
 }
 
-// Parses the comment and the password, and generates the pair with these devices.
-fn answer_over(
+// Parses the comment and the password, generates the pair with these devices, and adds the fields of the
+// result.
+fn answer_with_devices(
     alloc: Global,
     request: &PairRequest,
     line: &str,
     mut devices: Devices<'_>,
     reply: &mut Reply,
 ) -> Result<(), Refusal> {
-    let numbers = numbers_of(request);
-    let comment = text_or_none_of(alloc, given(line, numbers[2]))?;
-    let password = text_or_none_of(alloc, given(line, numbers[3]))?;
-    let pair = made(alloc, request, &mut devices, comment.as_deref(), password);
+    let positions = word_positions(request);
+    let comment = text_or_none_of(alloc, word_or_dash(line, positions[2]))?;
+    let password = text_or_none_of(alloc, word_or_dash(line, positions[3]))?;
+    let pair = generate(alloc, request, &mut devices, comment.as_deref(), password);
     show_devices(alloc, request, devices, reply);
     show(alloc, pair, reply);
     Ok(())
 }
 
 // Calls the library to generate a pair.
-fn made(
+fn generate(
     alloc: Global,
     request: &PairRequest,
     devices: &mut Devices<'_>,
@@ -88,18 +89,18 @@ fn made(
     password: Option<String>,
 ) -> minisign::Result<KeyPair> {
     match request {
-        PairRequest::Plain => generated_plain(devices),
-        PairRequest::Sealed => generated_sealed(alloc, devices, password),
-        PairRequest::WritePlain => written_plain(alloc, devices),
-        PairRequest::WriteSealed => written_sealed(alloc, devices, comment, password),
+        PairRequest::Plain => generate_unencrypted(devices),
+        PairRequest::Sealed => generate_encrypted(alloc, devices, password),
+        PairRequest::WritePlain => write_unencrypted(alloc, devices),
+        PairRequest::WriteSealed => write_encrypted(alloc, devices, comment, password),
     }
 }
 
-fn generated_plain(devices: &mut Devices<'_>) -> minisign::Result<KeyPair> {
+fn generate_unencrypted(devices: &mut Devices<'_>) -> minisign::Result<KeyPair> {
     KeyPair::generate_unencrypted_keypair(&ToyScheme::new(), &mut devices.random)
 }
 
-fn generated_sealed(
+fn generate_encrypted(
     alloc: Global,
     devices: &mut Devices<'_>,
     password: Option<String>,
@@ -113,7 +114,7 @@ fn generated_sealed(
     )
 }
 
-fn written_plain(alloc: Global, devices: &mut Devices<'_>) -> minisign::Result<KeyPair> {
+fn write_unencrypted(alloc: Global, devices: &mut Devices<'_>) -> minisign::Result<KeyPair> {
     KeyPair::generate_and_write_unencrypted_keypair(
         alloc,
         &ToyScheme::new(),
@@ -123,7 +124,7 @@ fn written_plain(alloc: Global, devices: &mut Devices<'_>) -> minisign::Result<K
     )
 }
 
-fn written_sealed(
+fn write_encrypted(
     alloc: Global,
     devices: &mut Devices<'_>,
     comment: Option<&str>,

@@ -15,9 +15,9 @@ pub fn answer(
     reply: &mut Reply,
 ) -> Result<(), Refusal> {
     let alloc = rt.alloc();
-    let key = key_read(rt, request, word(line, 1))?;
+    let key = key_of_request(rt, request, word(line, 1))?;
     match request {
-        PublicKeyRequest::ToBox => reply.returned_text("text", text_in_box(alloc, &key)),
+        PublicKeyRequest::ToBox => reply.returned_text("text", text_of_key(alloc, &key)),
         PublicKeyRequest::Equal => {
             let second = key_of(alloc, word(line, 2))?;
             reply.fields.flag("eq", key == second);
@@ -27,8 +27,8 @@ pub fn answer(
     Ok(())
 }
 
-// Returns the key in the first word of a request.
-fn key_read(
+// Parses the first word of a request in the way that the request names, and returns the public key.
+fn key_of_request(
     rt: &HostRuntime,
     request: &PublicKeyRequest,
     word: &str,
@@ -49,37 +49,37 @@ fn key_from_text(
 ) -> Result<PublicKey, Refusal> {
     let text = text_of(rt.alloc(), word)?;
     let key = match request {
-        PublicKeyRequest::FromBox => key_in_box(rt.alloc(), text.as_str()),
+        PublicKeyRequest::FromBox => key_by_from_box(rt.alloc(), text.as_str()),
         PublicKeyRequest::FromBase64 => PublicKey::from_base64(rt.alloc(), text.as_str()),
         _ => PublicKey::from_file(rt, rt.alloc(), text.as_str()),
     };
     Ok(key?)
 }
 
-/// Parses the text of a key with `PublicKeyBox`.
+/// Parses the word as a key text, with `PublicKeyBox::into_public_key`.
 pub fn key_of_text(alloc: Global, word: &str) -> Result<PublicKey, Refusal> {
     let text = text_of(alloc, word)?;
-    Ok(key_out_of_box(alloc, text.as_str())?)
+    Ok(key_by_into_public_key(alloc, text.as_str())?)
 }
 
-// Parses a text with `into_public_key`.
-fn key_out_of_box(alloc: Global, text: &str) -> minisign::Result<PublicKey> {
+// Parses a key text with `PublicKeyBox::into_public_key`.
+fn key_by_into_public_key(alloc: Global, text: &str) -> minisign::Result<PublicKey> {
     PublicKeyBox::from_string(alloc, text)?.into_public_key(alloc)
 }
 
-// Parses a text with `from_box`.
-fn key_in_box(alloc: Global, text: &str) -> minisign::Result<PublicKey> {
+// Parses a key text with `PublicKey::from_box`.
+fn key_by_from_box(alloc: Global, text: &str) -> minisign::Result<PublicKey> {
     PublicKey::from_box(alloc, PublicKeyBox::from_string(alloc, text)?)
 }
 
 // Parses the record of a secret key and returns its public key.
 fn key_of_secret(alloc: Global, word: &str) -> Result<PublicKey, Refusal> {
     let bytes = bytes_of(alloc, word)?;
-    Ok(public_half(&bytes)?)
+    Ok(public_key_of(&bytes)?)
 }
 
-// Returns the public key of a secret key.
-fn public_half(bytes: &[u8]) -> minisign::Result<PublicKey> {
+// Returns the public key of the secret key with this record.
+fn public_key_of(bytes: &[u8]) -> minisign::Result<PublicKey> {
     PublicKey::from_secret_key(&SecretKey::from_bytes(bytes)?)
 }
 
@@ -90,7 +90,7 @@ pub fn key_of(alloc: Global, word: &str) -> Result<PublicKey, Refusal> {
 }
 
 // Returns the text of a key.
-fn text_in_box(alloc: Global, key: &PublicKey) -> minisign::Result<String> {
+fn text_of_key(alloc: Global, key: &PublicKey) -> minisign::Result<String> {
     Ok(key.to_box(alloc)?.into_string())
 }
 

@@ -21,17 +21,17 @@ pub fn answer(
     let bytes = bytes_of(rt.alloc(), word(line, 1))?;
     match request {
         SecretKeyRequest::Open | SecretKeyRequest::FromFile => {
-            answer_opened(rt, request, text_in(&bytes)?, line, reply)
+            answer_decrypted(rt, request, text_in(&bytes)?, line, reply)
         }
-        SecretKeyRequest::Plain => answer_plain(rt.alloc(), &bytes, reply),
+        SecretKeyRequest::Plain => answer_unencrypted(rt.alloc(), &bytes, reply),
         SecretKeyRequest::ToBox => answer_text(rt.alloc(), &bytes, line, reply),
         SecretKeyRequest::Equal => answer_equal(rt.alloc(), &bytes, line, reply),
         SecretKeyRequest::FromBytes => answer_record(rt.alloc(), &bytes, reply),
     }
 }
 
-// Adds the fields of the key in a text or in a file, with typed lines for the prompt.
-fn answer_opened(
+// Decrypts the key in a text or in a file, with typed lines for the prompt, and adds the fields of the key.
+fn answer_decrypted(
     rt: &HostRuntime,
     request: &SecretKeyRequest,
     text: &str,
@@ -41,14 +41,14 @@ fn answer_opened(
     let typed = typed_lines_of(rt.alloc(), word(line, 3))?;
     let password = text_or_none_of(rt.alloc(), word(line, 2))?;
     let mut prompt = typed_prompt(rt.alloc(), &typed);
-    let key = opened(rt, request, text, password, &mut prompt);
+    let key = decrypt(rt, request, text, password, &mut prompt);
     reply.end_prompt(rt.alloc(), prompt);
     show_returned(rt.alloc(), key, reply);
     Ok(())
 }
 
 // Calls the library to decrypt a key.
-fn opened(
+fn decrypt(
     rt: &HostRuntime,
     request: &SecretKeyRequest,
     text: &str,
@@ -59,12 +59,12 @@ fn opened(
         SecretKeyRequest::FromFile => {
             SecretKey::from_file(rt, rt.alloc(), text, password, prompt)
         }
-        _ => opened_text(rt.alloc(), text, password, prompt),
+        _ => decrypt_text(rt.alloc(), text, password, prompt),
     }
 }
 
 // Decrypts the key in a text with `into_secret_key`.
-fn opened_text(
+fn decrypt_text(
     alloc: Global,
     text: &str,
     password: Option<String>,
@@ -74,14 +74,14 @@ fn opened_text(
     key_box.into_secret_key(alloc, password, prompt)
 }
 
-fn answer_plain(alloc: Global, bytes: &[u8], reply: &mut Reply) -> Result<(), Refusal> {
+fn answer_unencrypted(alloc: Global, bytes: &[u8], reply: &mut Reply) -> Result<(), Refusal> {
     let text = text_in(bytes)?;
-    show_returned(alloc, plain_key(alloc, text), reply);
+    show_returned(alloc, unencrypted_key(alloc, text), reply);
     Ok(())
 }
 
-// Parses a key without a password.
-fn plain_key(alloc: Global, text: &str) -> minisign::Result<SecretKey> {
+// Parses the text of a key that was never encrypted.
+fn unencrypted_key(alloc: Global, text: &str) -> minisign::Result<SecretKey> {
     SecretKeyBox::from_string(alloc, text)?.into_unencrypted_secret_key()
 }
 
@@ -129,10 +129,10 @@ fn show(alloc: Global, key: &SecretKey, reply: &mut Reply) {
     reply.returned_bytes("raw", key.to_bytes(alloc));
     reply.fields.bytes("keynum", key.keynum());
     reply.fields.flag("encrypted", key.is_encrypted());
-    reply.returned_text("debug", printed(alloc, key));
+    reply.returned_text("debug", debug_output(alloc, key));
 }
 
 // Returns the debug output of a secret key.
-fn printed(alloc: Global, key: &SecretKey) -> minisign::Result<String> {
+fn debug_output(alloc: Global, key: &SecretKey) -> minisign::Result<String> {
     Ok(format!(in alloc; "{key:?}")?)
 }

@@ -19,7 +19,7 @@ function_refused e value (inl is) = inr (sym is)
 function_refused e value (inr memory) = inl (cc memory)
 
 -- The value that a call returned is the value in `value`, its specified result.
-pub function_given : {V : Type 0} (v : V) (value : Result V Fault) → IsValueOrNoMemory (Ok v) value
+pub specified_value : {V : Type 0} (v : V) (value : Result V Fault) → IsValueOrNoMemory (Ok v) value
     → value ≡ Ok v
-function_given v value (inl is) = sym is
-function_given v value (inr memory) = cc memory
+specified_value v value (inl is) = sym is
+specified_value v value (inr memory) = cc memory

@@ -12,6 +12,7 @@ use Rattle.minisign_external.specs.Signing.{AcceptsSignatures, IsSignatureFileOf
 use Rattle.minisign_external.specs.Signing.{box_of_signatures}
 use Rattle.minisign_external.specs.Signing.{comments_with_signature, signature_with_key_id}
 
+-- If a scheme makes the two signatures with a key, their box is the one that signing with this key makes.
 pub answered_is_signed : (sign : Signer) (key : SecretKeyRecord) (message z1 z2 key_id : List ℕ)
     (chosen : ChosenComments) (first second : List ℕ)
     → key_id ≡ key.keynum → SchemeMakesSignatures sign key message chosen.trusted z1 z2 first second
@@ -19,6 +20,8 @@ pub answered_is_signed : (sign : Signer) (key : SecretKeyRecord) (message z1 z2 
 answered_is_signed sign key message z1 z2 key_id chosen first second same answers =
     rw (same, sym answers.comment_signature, sym answers.data_signature) refl
 
+-- If a scheme accepts both signatures, their box is valid for the message, under each public key with the key
+-- ID.
 pub answered_vouches : (accepts : Verifier) (public message key_id : List ℕ) (chosen : ChosenComments)
     (first second : List ℕ)
     → length second ≡ 64 → AcceptsSignatures accepts public message chosen.trusted first second

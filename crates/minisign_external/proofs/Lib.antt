@@ -1,3 +1,4 @@
+-- The lemmas that the proofs of minisign_external use.
 mod Words
 pub mod BoxesOfSignatures
 pub mod Facts

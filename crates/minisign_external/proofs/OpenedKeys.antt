@@ -33,6 +33,8 @@ as_read : (b : Bool) (g : Result SecretKeyRecord (Refusal Fault)) (m : Refusal F
 as_read true g m is = refl
 as_read false g m is = cc is
 
+-- If opening an encrypted key with a password fails, the error is one of opening its key record, or out of
+-- memory if opening runs scrypt.
 pub sealed_refusal : (v : UnopenedKeyValue) (password : List ℕ) (most : ℕ) (old new : SecretKeyValue)
     (f : Refusal Fault) → is_read v ≡ true
     → (◌≡◌ {A = Answer} (Err f, new) (opened_or_unchanged (opened_sealed v password most) old))
@@ -51,6 +53,7 @@ sealed_refusal v password most old new f read (inr (h, (also, utf8, derives))) =
     let same : f ≡ Refused (Named OutOfMemory) = cc first in
     subst (IsOpeningRefusal (unopened_record v) (Some password) most) (sym same) (inr (refl, (utf8, derives)))
 
+-- If opening a key without a password fails, the error is one of opening its key record.
 pub unsealed_refusal : (v : UnopenedKeyValue) (most : ℕ) (old new : SecretKeyValue) (f : Refusal Fault)
     → is_read v ≡ true
     → ◌≡◌ {A = Answer} (Err f, new) (opened_or_unchanged (opened_unsealed v) old)

@@ -17,11 +17,11 @@ use Rattle.minisign_external.specs.Questions.{HoldsMessage, has_whole_signature,
 use Rattle.minisign_external.specs.Signatures.{IsReadFrom, comment_bytes, comment_of, is_text_of}
 use Rattle.minisign_external.specs.Signatures.{read_signature_value, signature_mark, signature_of_value}
 use Rattle.minisign_external.specs.Signatures.{signature_value}
-use Rattle.minisign_external.specs.States.{HasAsked, IsTextRefusal, asked_about, asking_checks, asked_under}
-use Rattle.minisign_external.specs.States.{asking_misuse, asking_result, asking_under, after_key_check}
-use Rattle.minisign_external.specs.States.{may_ask}
-use Rattle.minisign_external.specs.States.{after_comment_check, questions_about, questions_of, check_buffer}
-use Rattle.minisign_external.specs.States.{with_public_key}
+use Rattle.minisign_external.specs.States.{WasAskedAbout, IsTextRefusal, state_after_asking}
+use Rattle.minisign_external.specs.States.{check_ask_arguments, check_buffer_if_read, asking_misuse}
+use Rattle.minisign_external.specs.States.{result_of_asking, result_of_asking_with_text, after_key_check}
+use Rattle.minisign_external.specs.States.{can_be_asked, after_comment_check, questions_for_value}
+use Rattle.minisign_external.specs.States.{questions_for_text, check_buffer, with_public_key}
 use Rattle.minisign_external.specs.declared.public_keys.PublicKeyValue.{PublicKeyValue}
 use Rattle.minisign_external.specs.declared.signatures.SignatureValue.{SignatureValue}
 use Rattle.minisign_external.specs.declared.state.Misuse.{Misuse}
@@ -62,14 +62,16 @@ one_or_zero : (b : Bool) → ((if b then 1 else 0) == 1) ≡ b
 one_or_zero true = refl
 one_or_zero false = refl
 
+-- The two ways to compute the checks after parsing, from the struct and from the text, give the same result.
 judged_as : (j : Result ⊤ Fault) (t : SignatureTextRecord) (room : ℕ)
-    → after_key_check j (check_buffer (length t.comments.trusted) room) ≡ asked_under (and_then j
+    → after_key_check j (check_buffer (length t.comments.trusted) room) ≡ check_buffer_if_read (and_then j
     (λ _. Ok t)) room
 judged_as (Ok u) t room = refl
 judged_as (Err e) t room = refl
 
+-- If they succeed, the text passes the checks under the key.
 judged_ok : (j : Result ⊤ Fault) (t : SignatureTextRecord) (room : ℕ)
-    → asked_under (and_then j (λ _. Ok t)) room ≡ Ok tt
+    → check_buffer_if_read (and_then j (λ _. Ok t)) room ≡ Ok tt
     → ◌≡◌ {A = Result SignatureTextRecord Fault} (and_then j (λ _. Ok t)) (Ok t)
 judged_ok (Ok u) t room h = refl
 judged_ok (Err e) t room h = cc h
@@ -84,6 +86,8 @@ is_same s text part digest fits is utf8 =
     (nat_le (s.comment_offset + s.comment_len) (length text)) (is_utf8 (comment_bytes s text))
     digest fits (ap is_utf8 (sym is) ∙ is_utf8-from_IsUtf8 part utf8)
 
+-- If the bytes at the position of the comment are not UTF-8, the text is not accepted as the text of the
+-- struct.
 pub is_other : (s : SignatureValue) (text part : List ℕ) → part ≡ comment_bytes s text → ¬ (IsUtf8 part)
     → is_text_of s text ≡ false
 is_other s text part is other =
@@ -118,7 +122,7 @@ module _ (s : SignatureValue) (text : List ℕ) (t : SignatureTextRecord) (from 
 
   judged_under : (v : PublicKeyValue) (legacy : Bool) (room : ℕ) → after_comment_check (comment_of s text)
       (after_key_check (judge_key v.key_id (signature_of_value s) legacy) (check_buffer s.comment_len room))
-      ≡ asked_under (read_under v legacy text) room
+      ≡ check_buffer_if_read (read_under v legacy text) room
   judged_under v legacy room =
       ap (λ c. after_comment_check c
       (after_key_check (judge_key v.key_id (signature_of_value s) legacy) (check_buffer s.comment_len room)))
@@ -126,32 +130,33 @@ module _ (s : SignatureValue) (text : List ℕ) (t : SignatureTextRecord) (from 
       ∙ ap (λ (x : SignatureValue). after_key_check (judge_key v.key_id (signature_of_value x) legacy)
       (check_buffer x.comment_len room)) from.value
       ∙ judged_as (judge_key v.key_id t.signature legacy) t room
-      ∙ ap (λ r. asked_under r room) (under v legacy)
+      ∙ ap (λ r. check_buffer_if_read r room) (under v legacy)
 
   -- Asking with the struct gives the same result as the checks of the text under the key.
-  pub asked_as : (v : PublicKeyValue) (legacy : Bool) (room : ℕ) → asking_checks v s text legacy room
-      ≡ with_public_key v (asked_under (read_under v legacy text) room)
+  pub asked_as : (v : PublicKeyValue) (legacy : Bool) (room : ℕ) → check_ask_arguments v s text legacy room
+      ≡ with_public_key v (check_buffer_if_read (read_under v legacy text) room)
   asked_as v legacy room = ap (with_public_key v) (judged_under v legacy room)
 
   pub asking_as : (state : State) (v : PublicKeyValue) (legacy : Bool) (room : ℕ)
-      → asking_result state v s text legacy room ≡ asking_under state v text legacy room
-  asking_as state v legacy room = ap (λ x. if may_ask state then x else Err (WrongUse (asking_misuse state)))
+      → result_of_asking state v s text legacy room ≡ result_of_asking_with_text state v text legacy room
+  asking_as state v legacy room =
+      ap (λ x. if can_be_asked state then x else Err (WrongUse (asking_misuse state)))
       (asked_as v legacy room)
 
   -- If asking succeeds, the text parses to this signature and passes the checks under the key.
   pub reads_under : (v : PublicKeyValue) (legacy : Bool) (room : ℕ)
-      → asking_checks v s text legacy room ≡ Ok tt
+      → check_ask_arguments v s text legacy room ≡ Ok tt
       → read_under v legacy text ≡ Ok t
   reads_under v legacy room h =
       sym (under v legacy) ∙ judged_ok (judge_key v.key_id t.signature legacy) t room
-      (ap (λ r. asked_under r room) (under v legacy)
+      (ap (λ r. check_buffer_if_read r room) (under v legacy)
       ∙ of_public (is_public_key v) _ (sym (asked_as v legacy room) ∙ h))
 
-  -- The questions about the struct are the questions about the text.
-  pub questions_are : (v : PublicKeyValue) → questions_about v s ≡ questions_of v t
-  questions_are v = ap (questions_about v) from.value
+  -- The questions for the struct are the questions for the text.
+  pub questions_are : (v : PublicKeyValue) → questions_for_value v s ≡ questions_for_text v t
+  questions_are v = ap (questions_for_value v) from.value
 
-  -- The bytes in the buffer are the message of the second question about the text.
+  -- The bytes in the buffer are the message of the second check about the text.
   pub message_is : (c message : List ℕ) (len : ℕ) → comment_of s text ≡ Ok c → len ≡ 64 + length c
       → len ≤ length message
       → take len message ≡ s.signature ++ c → (c ≡ t.comments.trusted)
@@ -167,9 +172,9 @@ module _ (s : SignatureValue) (text : List ℕ) (t : SignatureTextRecord) (from 
         },
       )
 
-  -- A state that was asked with the struct has been asked about the text (HasAsked).
+  -- A state that was asked with the struct was asked about the text (WasAskedAbout).
   pub has_asked : (state : State) (v : PublicKeyValue) (legacy : Bool) → read_under v legacy text ≡ Ok t
-      → HasAsked (asked_about state s) v text legacy
+      → WasAskedAbout (state_after_asking state s) v text legacy
   has_asked state v legacy read = record {
     asked = refl;
     signed = t;
@@ -200,6 +205,7 @@ from_text (Ok s) text bytes h same utf8 (t, read, stands, comment, room) =
     (t, subst (λ (b : List ℕ). IsReadFrom s b t) same from)
 from_text (Err e) text bytes h same utf8 more = tt
 
+-- If reading a signature from a text fails, parsing the text fails with the same error.
 unread_of : (text : List ℕ) (e : Fault) (r : Result SignatureTextRecord Fault)
     → Err e ≡ map_ok (signature_value text) r → r ≡ Err e
 unread_of text e (Ok t) h = cc h
@@ -212,5 +218,6 @@ pub unread_texts : (v : PublicKeyValue) (legacy : Bool) (bytes : List ℕ) (r : 
 unread_texts v legacy bytes (Ok s) h = tt
 unread_texts v legacy bytes (Err e) h =
     opening_refusal v bytes legacy 0 (Refused e)
-    (ap (λ r. asked_under (and_then r (λ t. and_then (judge_key v.key_id t.signature legacy) (λ _. Ok t))) 0)
+    (ap (λ r. check_buffer_if_read (and_then r (λ t. and_then (judge_key v.key_id t.signature legacy)
+    (λ _. Ok t))) 0)
     (unread_of bytes e (read_utf8 read_signature bytes) h))

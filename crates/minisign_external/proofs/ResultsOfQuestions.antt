@@ -14,9 +14,9 @@ use Rattle.minisign_external.specs.Signatures.{read_signature_value, signature_v
 use Rattle.minisign_external.specs.PublicKeys.{is_public_key, read_utf8}
 use Rattle.minisign_external.specs.Questions.{Answers, has_whole_signature, read_under}
 use Rattle.minisign_external.specs.Questions.{comment_signature_or_zeros}
-use Rattle.minisign_external.specs.States.{AreQuestionsWithoutDigest, IsBlank, IsFedState, asked_under}
-use Rattle.minisign_external.specs.States.{asking_misuse}
-use Rattle.minisign_external.specs.States.{asking_under, given_verdict, may_ask, with_public_key}
+use Rattle.minisign_external.specs.States.{AreQuestionsWithoutDigest, IsBlank, IsFedState}
+use Rattle.minisign_external.specs.States.{check_buffer_if_read, asking_misuse, result_of_asking_with_text}
+use Rattle.minisign_external.specs.States.{without_trusted_comment, can_be_asked, with_public_key}
 use Rattle.minisign_external.specs.Questions.{verdict_under}
 use Rattle.minisign_external.specs.declared.state.Misuse.TheVariants.{NoRoom, PublicKeyNotRead}
 use Rattle.minisign_external.specs.declared.state.Refusal.{Refusal}
@@ -110,32 +110,33 @@ module _ (accepts : Verifier) (v : PublicKeyValue) (text message : List ℕ) (ro
     (fits : (t : SignatureTextRecord) → read_under v false text ≡ Ok t → 64 + length t.comments.trusted
     ≤ room) where
   error_of_failed_ask : (x : Result SignatureTextRecord Fault) → read_under v false text ≡ x
-      → Err r ≡ asked_under x room
-      → Err r ≡ given_verdict (verdict_under accepts v text message false)
+      → Err r ≡ check_buffer_if_read x room
+      → Err r ≡ without_trusted_comment (verdict_under accepts v text message false)
   error_of_failed_ask (Ok t) e h = absurd
       (room_is_enough (nat_le (64 + length t.comments.trusted) room) r (le-leb _ _ (fits t e)) h)
   error_of_failed_ask (Err f) e h = rw e h
 
   -- If asking a new state fails, the verdict on the key and the signature file is the same error.
   pub failed_ask_verdict : (s : State) → is_public_key v ≡ true → IsFedState s [] → IsBlank s
-      → Err r ≡ asking_under s v text false room
-      → Err r ≡ given_verdict (verdict_under accepts v text message false)
+      → Err r ≡ result_of_asking_with_text s v text false room
+      → Err r ≡ without_trusted_comment (verdict_under accepts v text message false)
   failed_ask_verdict s public fed blank is =
-      let may : may_ask s ≡ true = rw (fed.mark, blank.asked) refl in
+      let may : can_be_asked s ≡ true = rw (fed.mark, blank.asked) refl in
       error_of_failed_ask (read_under v false text) refl
-      (is ∙ ap (λ (b : Bool). if b then with_public_key v (asked_under (read_under v false text) room) else
-      Err (WrongUse (asking_misuse s))) may
-      ∙ ap (λ (b : Bool). if b then asked_under (read_under v false text) room else
+      (is
+      ∙ ap (λ (b : Bool). if b then with_public_key v (check_buffer_if_read (read_under v false text) room)
+      else Err (WrongUse (asking_misuse s))) may
+      ∙ ap (λ (b : Bool). if b then check_buffer_if_read (read_under v false text) room else
       Err (WrongUse PublicKeyNotRead)) public)
 
 -- If parsing the signature file fails, the verdict is the same error.
 pub unparsed_verdict : (accepts : Verifier) (v : PublicKeyValue) (text message : List ℕ) (e : Fault)
     → read_signature_value text ≡ Err e
-    → Err (Refused e) ≡ given_verdict (verdict_under accepts v text message false)
+    → Err (Refused e) ≡ without_trusted_comment (verdict_under accepts v text message false)
 unparsed_verdict accepts v text message e h = of_text (read_utf8 read_signature text) refl h
   where
     of_text : (r : Result SignatureTextRecord Fault) → read_utf8 read_signature text ≡ r
         → map_ok (signature_value text) r ≡ Err e
-        → Err (Refused e) ≡ given_verdict (verdict_under accepts v text message false)
+        → Err (Refused e) ≡ without_trusted_comment (verdict_under accepts v text message false)
     of_text (Ok t) is none = cc none
     of_text (Err f) is same = let one : f ≡ e = cc same in rw (is, one) refl

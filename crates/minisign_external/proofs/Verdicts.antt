@@ -22,10 +22,10 @@ use Rattle.minisign_external.specs.PublicKeys.{key_of, read_utf8, value_of}
 use Rattle.minisign_external.specs.Questions.{Answers, IsKeyText, has_whole_signature, read_under}
 use Rattle.minisign_external.specs.Questions.{verdict_under}
 use Rattle.minisign_external.specs.PublicKeys.{is_public_key}
-use Rattle.minisign_external.specs.States.{IsTextRefusal, asked_under, asking_misuse, asking_under, fed_mark}
-use Rattle.minisign_external.specs.States.{with_public_key}
+use Rattle.minisign_external.specs.States.{IsTextRefusal, check_buffer_if_read, asking_misuse}
+use Rattle.minisign_external.specs.States.{result_of_asking_with_text, fed_mark, with_public_key}
 use Rattle.minisign_external.specs.declared.state.Misuse.TheVariants.{PublicKeyNotRead}
-use Rattle.minisign_external.specs.States.{is_asked}
+use Rattle.minisign_external.specs.States.{was_asked}
 use Rattle.minisign_external.specs.declared.public_keys.PublicKeyValue.{PublicKeyValue}
 use Rattle.minisign_external.specs.declared.state.Misuse.{Misuse}
 use Rattle.minisign_external.specs.declared.state.Misuse.TheVariants.{NoRoom, NotBegun}
@@ -66,13 +66,18 @@ opened_text v legacy sig_text t h =
 
 -- == The four checks ==
 
+-- The first two checks: a is true if the key IDs are equal, otherwise f is the error; b is true if the
+-- signature is prehashed or legacy ones are allowed.
 abbrev judge_two : Bool → Bool → NamedFault → Result ⊤ Fault
 judge_two a b f = require a f (require b LegacyNotAccepted (Ok tt))
 
+-- All four checks, each after the one before. c and d are the results of the two Ed25519 checks, and u is the
+-- trusted comment.
 abbrev tests : {T : Type 0} → Bool → Bool → Bool → Bool → NamedFault → T → List ℕ → Result (List ℕ) Fault
 tests a b c d f t u =
     and_then (and_then (judge_two a b f) (λ _. Ok t)) (λ _. and_then (judge_answers c d) (λ _. Ok u))
 
+-- If the four checks succeed, each of them does.
 pass : {T : Type 0} (a b c d : Bool) (f : NamedFault) (t : T) (u w : List ℕ) → tests a b c d f t u ≡ Ok w
     → (a ≡ true) × (b ≡ true) × (c ≡ true) × (d ≡ true)
 pass true true true true f t u w h = (refl, refl, refl, refl)
@@ -81,8 +86,8 @@ pass true true false d f t u w h = cc h
 pass true false c d f t u w h = cc h
 pass false b c d f t u w h = cc h
 
--- The four checks give the same result, whether the last two are chained to the first two or follow them
--- separately.
+-- The four checks give the same result in both nestings: if the last two are inside the first two, and if
+-- each check follows the one before.
 reordered : {T : Type 0} (a b c d : Bool) (f : NamedFault) (t : T) (u : List ℕ)
     → and_then (and_then (judge_two a b f) (λ _. judge_answers c d)) (λ _. Ok u) ≡ tests a b c d f t u
 reordered true true c d f t u = refl
@@ -244,13 +249,15 @@ decided accepts v sig_text message legacy t whole first second opens is answers 
 abbrev fits : Bool → Result Unit (Refusal Fault)
 fits b = if b then Ok tt else Err (WrongUse NoRoom)
 
+-- A check of the buffer fails only with API misuse, not with an error of the library.
 has_room : (b : Bool) (e : Fault) → fits b ≡ Err (Refused e) → ⊥
 has_room true e h = cc h
 has_room false e h = cc h
 
 abbrev begun : Bool → Result SignatureTextRecord Fault → ℕ → Misuse → Result Unit (Refusal Fault)
-begun b r room m = if b then asked_under r room else Err (WrongUse m)
+begun b r room m = if b then check_buffer_if_read r room else Err (WrongUse m)
 
+-- An error of the library comes from parsing the text or checking it under the key.
 refused_text : (b : Bool) (r : Result SignatureTextRecord Fault) (room : ℕ) (m : Misuse) (e : Fault)
     → begun b r room m ≡ Err (Refused e) → r ≡ Err e
 refused_text true (Ok t) room m e h = absurd (has_room (nat_le (64 + length t.comments.trusted) room) e h)
@@ -260,7 +267,7 @@ refused_text false r room m e h = cc h
 -- If asking fails after the checks of the state and the public key, then verification fails with the same
 -- error, or the error is API misuse (IsTextRefusal).
 pub opening_refusal : (v : PublicKeyValue) (sig_text : List ℕ) (legacy : Bool) (room : ℕ) (r : Refusal Fault)
-    → asked_under (read_under v legacy sig_text) room ≡ Err r → IsTextRefusal v sig_text legacy r
+    → check_buffer_if_read (read_under v legacy sig_text) room ≡ Err r → IsTextRefusal v sig_text legacy r
 opening_refusal v sig_text legacy room (WrongUse m) h = tt
 opening_refusal v sig_text legacy room (Refused e) h = λ utf8 pk_text message accepts keyed.
     refuse accepts pk_text sig_text message legacy v keyed utf8 e
@@ -269,15 +276,17 @@ opening_refusal v sig_text legacy room (Refused e) h = λ utf8 pk_text message a
 -- The same for the check that the public key was read, followed by the checks after it.
 refusal_of_asking : (b : Bool) (v : PublicKeyValue) (sig_text : List ℕ) (legacy : Bool) (room : ℕ)
     (r : Refusal Fault)
-    → (if b then asked_under (read_under v legacy sig_text) room else Err (WrongUse PublicKeyNotRead)) ≡ Err r
+    → (if b then check_buffer_if_read (read_under v legacy sig_text) room
+    else Err (WrongUse PublicKeyNotRead)) ≡ Err r
     → IsTextRefusal v sig_text legacy r
 refusal_of_asking b v sig_text legacy room (WrongUse m) h = tt
 refusal_of_asking true v sig_text legacy room (Refused e) h =
     opening_refusal v sig_text legacy room (Refused e) h
 refusal_of_asking false v sig_text legacy room (Refused e) h = cc h
 
+-- `opening_refusal` for all checks of asking after that of the state, which include that of the public key.
 pub opening_refusal_under : (v : PublicKeyValue) (sig_text : List ℕ) (legacy : Bool) (room : ℕ)
-    (r : Refusal Fault) → with_public_key v (asked_under (read_under v legacy sig_text) room) ≡ Err r
+    (r : Refusal Fault) → with_public_key v (check_buffer_if_read (read_under v legacy sig_text) room) ≡ Err r
     → IsTextRefusal v sig_text legacy r
 opening_refusal_under v sig_text legacy room r h =
     refusal_of_asking (is_public_key v) v sig_text legacy room r h

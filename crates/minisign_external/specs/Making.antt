@@ -21,12 +21,14 @@ use Rattle.minisign_external.specs.declared.state.Refusal.{Refusal}
 use Rattle.minisign_external.specs.declared.state.Refusal.TheVariants.{WrongUse, Refused}
 
 -- Minisign reads the whole comment in the first line of a key file: it has no carriage return and no zero
--- byte, and is not longer than Minisign's buffer.
+-- byte, and it fits into Minisign's buffer of 1024 bytes together with the label (19 bytes), a line feed and
+-- a zero byte.
 pub record IsReadInKey (comment : List ℕ) : Type 0 where
   pub no_return : LacksByte 13 comment
   pub no_zero : LacksByte 0 comment
   pub short : length comment < 1004
 
+-- The comment has no line feed, and Minisign reads all of it.
 abbrev pub IsKeyComment : List ℕ → Type 0
 IsKeyComment comment = LacksByte 10 comment × IsReadInKey comment
 
@@ -66,15 +68,16 @@ IsWritable comment more bytes = IsKeyComment comment × (length comment + more �
 abbrev pub AreUtf8KeyTexts : List ℕ → Option (List ℕ) → Type 0
 AreUtf8KeyTexts comment password = IsUtf8 comment × IfSome password IsUtf8
 
--- The error if no secret key file is written although the comment and the password are UTF-8: API misuse as
--- in IsUnwritable; or else limits that are rejected, or out of memory.
+-- The error if no secret key file is written although the key is open and the comment and the password are
+-- UTF-8: the API misuse of IsUnwritable. If the file can be written, the error is that of `making_fault`: the
+-- scrypt limits are rejected (only with a password), or memory runs out.
 abbrev pub IsMadeRefusal : Option (List ℕ) → Sealing → List ℕ → List ℕ → Refusal Fault → Type 0
 IsMadeRefusal password s comment bytes (WrongUse m) = IsUnwritable comment 233 bytes m
 IsMadeRefusal password s comment bytes (Refused e) = IsWritable comment 233 bytes
     × (e ≡ making_fault password s)
 
 -- The error if no secret key file is written: the key is not open; or else the comment or the password is not
--- UTF-8; or else an error of IsMadeRefusal.
+-- UTF-8; or else an error of IsMadeRefusal, which covers the later checks.
 abbrev pub IsMakingRefusal : SecretKeyValue → Option (List ℕ) → Sealing → List ℕ → List ℕ → Refusal Fault
     → Type 0
 IsMakingRefusal v password s comment bytes r =
@@ -98,7 +101,7 @@ abbrev pub IsPublicKeyNumber : SecretKeyValue → List ℕ → List ℕ → ℕ 
 IsPublicKeyNumber v comment bytes n =
     (r : Refusal Fault) × (n ≡ refusal_number fault_number r) × IsPublicKeyRefusal v comment bytes r
 
--- == Keys that were only read ==
+-- == Keys that were read, which are written again as they are ==
 
 -- The first len bytes of the buffer are the public key file of this key, and parse to it.
 pub record HoldsReadPublicKey (k : PublicKeyRecord) (comment bytes : List ℕ) (len : ℕ) : Type 0 where
@@ -107,16 +110,17 @@ pub record HoldsReadPublicKey (k : PublicKeyRecord) (comment bytes : List ℕ) (
   pub written : take len bytes ≡ commented_public_key_text comment k
   pub reads : read_public_key (take len bytes) ≡ Ok k
 
--- The first len bytes of the buffer are the secret key file of this key as it was read, and parse to it.
+-- The first len bytes of the buffer are the secret key file of this key as it was read, encrypted or not, and
+-- parse to it.
 pub record HoldsReadSecretKey (k : SecretKeyRecord) (comment bytes : List ℕ) (len : ℕ) : Type 0 where
   pub fits : len ≤ length bytes
   pub size : len ≡ length comment + 233
   pub written : take len bytes ≡ secret_key_text (Some comment) k
   pub reads : read_secret_key (take len bytes) ≡ Ok k
 
--- The error if a key that was read is not written to a file that is `more` bytes longer than its comment: the
--- key was not read, which is the API misuse `unread`; or else the comment is not UTF-8, or is rejected, or
--- the buffer is too short; or out of memory.
+-- The error if a key is not written to the buffer as a file that is `more` bytes longer than its comment. The
+-- errors are, in this order: the API misuse `unread`, if no key was read into the struct; the comment is not
+-- UTF-8; the API misuse of IsUnwritable; out of memory.
 abbrev pub IsEncodingRefusal : Bool → Misuse → ℕ → List ℕ → List ℕ → Refusal Fault → Type 0
 IsEncodingRefusal is_read unread more comment bytes (WrongUse m) =
     ((m ≡ unread) × (is_read ≡ false))

@@ -22,6 +22,7 @@ use Rattle.minisign_external.specs.declared.state.Misuse.TheVariants.{OtherListT
 use Rattle.minisign_external.specs.declared.state.Refusal.{Refusal}
 use Rattle.minisign_external.specs.declared.state.Refusal.TheVariants.{WrongUse, Refused}
 
+-- The error number of API misuse.
 abbrev pub misuse_number : Misuse → ℕ
 misuse_number NotBegun = 1
 misuse_number AlreadyAsked = 2
@@ -47,6 +48,7 @@ misuse_number OtherListText = 86
 misuse_number BadHash = 87
 misuse_number EntryNotRead = 88
 
+-- The English text of API misuse.
 abbrev pub misuse_text : Misuse → List ℕ
 misuse_text NotBegun = codes
     "the state is not initialized, or its verdict was already returned: call minisign_init first"
@@ -84,7 +86,8 @@ misuse_text BadHash = codes "the hash function or the length of its digest is no
 misuse_text EntryNotRead = codes "the entry has not been read from a list"
 
 -- The numbers that a caller passes in as the result of an Ed25519 check: the letters "yes" and "no", one byte
--- each. They are neither 0 nor 1 nor an error number, so none of these can be mistaken for a result.
+-- each. Both are different from 0, 1 and all error numbers, so a caller that passes in one of those by
+-- mistake gets the error BadAnswer, and not a verdict.
 abbrev pub answer_yes : ℕ
 answer_yes = 7955827
 

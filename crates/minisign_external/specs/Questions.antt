@@ -57,7 +57,7 @@ AnswersFirst accepts v t message first = accepts (signed_bytes (box_of t) messag
     ≡ first
 
 -- The result of the second check, if it can be made: the scheme accepts the first 64 bytes of the comment
--- signature as a signature of the data signature followed by the trusted comment.
+-- signature as a signature of the concatenation of the data signature and the trusted comment.
 abbrev pub AnswersSecond : Verifier → PublicKeyValue → SignatureTextRecord → Bool → Type 0
 AnswersSecond accepts v t second =
     IsTrue (has_whole_signature t.comments)

@@ -15,7 +15,7 @@ use Rattle.minisign.specs.KeyTexts.{read_secret_key, secret_key_of_bytes}
 use Rattle.minisign.specs.Texts.{and_then}
 use Rattle.minisign_external.specs.Numbers.{fault_number, misuse_number, refusal_number}
 use Rattle.minisign_external.specs.PublicKeys.{public_mark, read_utf8}
-use Rattle.minisign_external.specs.States.{decision}
+use Rattle.minisign_external.specs.States.{result_of_check}
 use Rattle.minisign_external.specs.declared.public_keys.PublicKeyValue.{PublicKeyValue}
 use Rattle.minisign_external.specs.declared.secrets.SecretKeyValue.{SecretKeyValue}
 use Rattle.minisign_external.specs.declared.unopened_keys.UnopenedKeyValue.{UnopenedKeyValue}
@@ -130,7 +130,7 @@ sealed_within k most_rows = and_then (sealed_by_scrypt k) (λ s. allowed_rows s 
 -- The result of checking the encrypted key in the struct without its password. A key must have been read.
 abbrev pub checked_sealed_key : UnopenedKeyValue → ℕ → Result Unit (Refusal Fault)
 checked_sealed_key v most_rows =
-    if is_read v then decision (without_value (sealed_within (unopened_record v) most_rows)) else
+    if is_read v then result_of_check (without_value (sealed_within (unopened_record v) most_rows)) else
     Err (WrongUse KeyNotRead)
 
 -- Opening the key in the struct with a password runs scrypt: a key was read, the password is UTF-8, and the

@@ -42,7 +42,7 @@ abbrev pub comments_with_signature : ChosenComments → List ℕ → CommentsRec
 comments_with_signature chosen second =
     record { untrusted = chosen.untrusted; trusted = chosen.trusted; signature = second }
 
--- The signature file that consists of these two.
+-- The signature box that consists of the signature of the data and the comments.
 abbrev pub box_of_signatures : List ℕ → ChosenComments → List ℕ → List ℕ → SignatureBoxRecord
 box_of_signatures key_id chosen first second =
     record {
@@ -50,8 +50,9 @@ box_of_signatures key_id chosen first second =
       comments = Some (comments_with_signature chosen second);
     }
 
--- The scheme makes these two signatures with the key's secret and the random bytes z1 and z2: the first of
--- the digest of the message, the second of the first signature followed by the trusted comment.
+-- The scheme makes these two signatures with the key's secret and the random bytes z1 and z2: the first one
+-- of the digest of the message, and the second one of the concatenation of the first signature and the
+-- trusted comment.
 pub record SchemeMakesSignatures (sign : Signer) (key : SecretKeyRecord)
     (message trusted z1 z2 first second : List ℕ)
     : Type 0 where
@@ -59,17 +60,19 @@ pub record SchemeMakesSignatures (sign : Signer) (key : SecretKeyRecord)
   pub comment_signature : sign (first ++ trusted) key.secret (Some z2) ≡ second
 
 -- Under this public key (32 bytes), the scheme accepts `first` as a signature of the digest of the message,
--- and `second` as a signature of `first` followed by the trusted comment.
+-- and `second` as a signature of the concatenation of `first` and the trusted comment.
 pub record AcceptsSignatures (accepts : Verifier)
     (public message trusted first second : List ℕ) : Type 0 where
   pub data_signature : accepts (blake2b_digest 64 message) public first ≡ true
   pub comment_signature : accepts (first ++ trusted) public second ≡ true
 
--- The two signatures that a scheme makes with a secret of 64 bytes and without random bytes: of the digest of
--- a message, and of that signature followed by the trusted comment.
+-- The data signature that a scheme makes with a secret of 64 bytes and without random bytes: that of the
+-- digest of the message.
 abbrev pub first_signature : Signer → List ℕ → List ℕ → List ℕ
 first_signature sign secret message = sign (blake2b_digest 64 message) secret None
 
+-- The comment signature that a scheme makes in the same way: that of the concatenation of the data signature
+-- and the trusted comment.
 abbrev pub second_signature : Signer → List ℕ → List ℕ → List ℕ → List ℕ
 second_signature sign secret message trusted = sign (first_signature sign secret message ++ trusted) secret
     None
@@ -82,10 +85,11 @@ pub record IsPairOf (public_of : List ℕ → List ℕ) (seed : List ℕ) (v : S
 
 -- The text is the signature file of the two signatures: it is UTF-8 and parses to their box.
 --
--- `signed`: for every scheme that makes these two signatures, this is the box that signing with the scheme
--- gives. `vouched`: if a scheme accepts the two signatures under a public key, the box is a valid signature
--- of the message under this public key. `headline`: so SigningHeadline, the promise on the files that the
--- library signs itself, holds for this file too.
+-- The field `signed`: if these are the two signatures that a scheme makes with a key for a message, the text
+-- parses to the box that the library makes when it signs the message with this key and scheme. The field
+-- `vouched`: if a scheme accepts the two signatures for a message under a public key, the text parses to a
+-- box that is a valid signature of the message under this public key. The field `headline`: therefore
+-- SigningHeadline, the promise on the files that the library signs itself, holds for this file too.
 pub record IsSignatureFileOf (key_id : List ℕ) (chosen : ChosenComments) (first second text : List ℕ)
     : Type 0 where
   pub written : text ≡ signature_text (signature_with_key_id key_id first)
@@ -105,9 +109,10 @@ pub record IsSignatureFileOf (key_id : List ℕ) (chosen : ChosenComments) (firs
       → AcceptsSignatures accepts (public_of seed) message chosen.trusted first second)
       → SigningHeadline accepts public_of key message chosen text
 
--- Minisign 0.11 reads the comments back unchanged: each line fits its buffer, which has 1,024 bytes for the
--- untrusted comment and 8,192 for the trusted one, including a label of 19 or 17 bytes, a line feed and a
--- zero; and no line is cut at a zero byte or a carriage return.
+-- Minisign 0.11 reads the comments back unchanged, provided that they have no line feeds (AreChosenReadBack).
+-- Each line fits its buffer, which has 1,024 bytes for the untrusted comment and 8,192 for the trusted one.
+-- The buffer also holds a label of 19 or 17 bytes, the line feed and a final zero. No line is cut at a zero
+-- byte (0) or a carriage return (13).
 pub record AreReadByMinisign (chosen : ChosenComments) : Type 0 where
   pub untrusted_fits : length chosen.untrusted < 1004
   pub trusted_fits : length chosen.trusted < 8174

@@ -12,7 +12,7 @@ use Rattle.minisign_external.specs.Numbers.{fault_number, misuse_number, refusal
 use Rattle.minisign_external.specs.Questions.{has_whole_signature, read_under, verdict_under}
 use Rattle.minisign_external.specs.SecretKeys.{public_value_of, opened_key_value}
 use Rattle.minisign_external.specs.Signing.{IsPairOf, first_signature, second_signature}
-use Rattle.minisign_external.specs.States.{asking_result, verdict_number}
+use Rattle.minisign_external.specs.States.{result_of_asking, verdict_number}
 use Rattle.minisign_external.specs.StrictEd25519.{is_strict, is_strict_signature}
 use Rattle.minisign_external.specs.declared.public_keys.PublicKeyValue.{PublicKeyValue}
 use Rattle.minisign_external.specs.declared.secrets.SecretKeyValue.{SecretKeyValue}
@@ -57,7 +57,8 @@ asked_number (Err r) = refusal_number fault_number r
 abbrev pub strict_asking_number : State → PublicKeyValue → SignatureValue → List ℕ → ℕ → ℕ → ℕ
 strict_asking_number s v signature text legacy room =
     if nat_le 2 legacy then misuse_number BadLegacyFlag else
-    asked_number (asked_strictly (is_strict_value v signature) (asking_result s v signature text (legacy == 1)
+    asked_number (asked_strictly (is_strict_value v signature) (result_of_asking s v signature text
+    (legacy == 1)
     room))
 
 -- The number n of a verdict, or, if the signature file was parsed and the key or a signature is weak, the
@@ -82,8 +83,8 @@ number_with_key (Err e) more = fault_number e
 -- == Signing ==
 
 -- Neither the public key of a seed nor the two signatures that a scheme makes with a key are weak: the
--- signature of the digest of a message, and the signature of the first signature followed by a trusted
--- comment.
+-- signature of the digest of a message, and the signature of the concatenation of the first signature and a
+-- trusted comment.
 abbrev pub SignsStrictly : {S : Type 0} → SchemeOf S → S → List ℕ → SecretKeyValue → List ℕ → List ℕ → Type 0
 SignsStrictly s scheme seed v message trusted =
     (is_strict (s.public_of scheme seed) (first_signature (s.signature_of scheme) v.secret message) ≡ true)

@@ -10,14 +10,13 @@ ghost use Rattle.minisign_external.specs.Questions.{Answers, AnswersComment, IsK
 ghost use Rattle.minisign_external.specs.Questions.{comment_verdict_under, read_under, verdict_under};
 ghost use Rattle.minisign_external.specs.Signatures.{IsReadFrom, comment_of};
 ghost use Rattle.minisign_external.specs.States.{AreQuestionsWithoutDigest, AreQuestions, GivesVerdict};
-ghost use Rattle.minisign_external.specs.States.{HasAsked, HoldsCommentMessage};
-ghost use Rattle.minisign_external.specs.States.{HasReturnedDigest, IsAskFedRefusal, IsFedState};
-ghost use Rattle.minisign_external.specs.States.{IsMarkedFinalized, IsTextRefusal, asked_about};
-ghost use Rattle.minisign_external.specs.States.{asking_checks};
-ghost use Rattle.minisign_external.specs.States.{asking_misuse, asking_result, asking_under, comment_result};
-ghost use Rattle.minisign_external.specs.States.{finalized_mark, given_verdict, is_asked, is_begun};
-ghost use Rattle.minisign_external.specs.States.{questions_about, check_buffer, verdict_outcome};
-ghost use Rattle.minisign_external.specs.States.{verdict_misuse};
+ghost use Rattle.minisign_external.specs.States.{WasAskedAbout, HoldsCommentMessage, HasReturnedDigest};
+ghost use Rattle.minisign_external.specs.States.{IsAskFedRefusal, IsFedState, IsMarkedFinalized};
+ghost use Rattle.minisign_external.specs.States.{IsTextRefusal, state_after_asking, check_ask_arguments};
+ghost use Rattle.minisign_external.specs.States.{asking_misuse, result_of_asking, result_of_asking_with_text};
+ghost use Rattle.minisign_external.specs.States.{comment_result, finalized_mark, without_trusted_comment};
+ghost use Rattle.minisign_external.specs.States.{was_asked, is_begun, questions_for_value, check_buffer};
+ghost use Rattle.minisign_external.specs.States.{verdict_outcome, verdict_misuse};
 ghost use Rattle.minisign_external.specs.StrictCalls.{asked_strictly, is_strict_text, is_strict_value};
 ghost use Rattle.minisign_external.specs.declared.public_keys.PublicKeyValue.{PublicKeyValue};
 ghost use Rattle.minisign_external.specs.declared.state.Refusal.TheVariants.{WrongUse};
@@ -31,10 +30,10 @@ use crate::verdict::{comment_verdict, verdict};
 use minisign::judge_key;
 
 impl State {
-    /// Writes the two questions that a scheme must answer to verify the data, usually before any data is fed.
-    /// `sig_text` must be the text from which the signature was read; only its trusted comment is used. The
-    /// message of the second question is written to the start of `message`, which needs 64 bytes more than
-    /// the trusted comment.
+    /// Writes the inputs of the two Ed25519 checks that verify the data (the questions), usually before any
+    /// data is fed. The caller makes the checks. `sig_text` must be the text from which the signature was
+    /// read; only its trusted comment is used. The message of the second check is written to the start of
+    /// `message`, which needs 64 bytes more than the trusted comment.
     ///
     /// The clause `value` lists the errors in the order in which they are checked. Does not allocate.
     pub fn ask(
@@ -50,29 +49,30 @@ impl State {
         // never initialized; the public key was not read; the signature was not read; the text is not the one
         // that it was read from (compared by digest); the key IDs differ; the signature is a legacy one and
         // these are not allowed; the buffer is too short. If none of them applies, the call succeeds.
-        ensures value { result ≡ asking_result self.old key.now signature.now sig_text.now allow_legacy
+        ensures value { result ≡ result_of_asking self.old key.now signature.now sig_text.now allow_legacy
             (length message.old) }
 
         // If the signature was read from this text, the result is the same as if the text were parsed here
         // and checked under this key.
         ensures text { (t : SignatureTextRecord) → IsReadFrom signature.now sig_text.now t
-            → result ≡ asking_under self.old key.now sig_text.now allow_legacy (length message.old) }
+            → result ≡ result_of_asking_with_text self.old key.now sig_text.now allow_legacy
+            (length message.old) }
 
-        // **On success, if the signature was read from this text, `questions` holds the two questions about
-        // the key and the text, with zeros in place of the digest, and the message of the second question is
-        // at the start of the buffer. The state records that it was asked. The data that it was fed is
-        // unchanged.**
+        // **On success, if the signature was read from this text, `questions` holds the inputs of the two
+        // checks for the key and the text, with zeros in place of the digest, and the message of the second
+        // check is at the start of the buffer. The state records that it was asked. The data that it was fed
+        // is unchanged.**
         ensures asked { OnOk result ((t : SignatureTextRecord) → IsReadFrom signature.now sig_text.now t
             → (read_under key.now allow_legacy sig_text.now ≡ Ok t)
             × AreQuestionsWithoutDigest questions.new message.new
-            key.now t × HasAsked self.new key.now sig_text.now allow_legacy) }
+            key.now t × WasAskedAbout self.new key.now sig_text.now allow_legacy) }
         ensures fed { (m : List ℕ) → IsFedState self.old m → IsFedState self.new m }
 
         // On success, whatever the signature was read from: the state only records that it was asked about
-        // this signature, the questions are those about the key and the signature, and the message is the
-        // data signature followed by the trusted comment.
-        ensures state { OnOk result (self.new ≡ asked_about self.old signature.now) }
-        ensures questions { OnOk result (questions.new ≡ questions_about key.now signature.now) }
+        // this signature, the questions are those for the key and the signature, and the message is the data
+        // signature followed by the trusted comment.
+        ensures state { OnOk result (self.new ≡ state_after_asking self.old signature.now) }
+        ensures questions { OnOk result (questions.new ≡ questions_for_value key.now signature.now) }
         ensures message { OnOk result (HoldsCommentMessage signature.now sig_text.now message.new) }
 
         // If the signature was read from this text, and the result is an error of the library and not API
@@ -88,7 +88,7 @@ impl State {
         ensures unchanged { OnErr result
             ((self.new ≡ self.old) × (questions.new ≡ questions.old) × (message.new ≡ message.old)) }
     {
-        if self.mark != FED || self.is_asked() || self.is_asked_bare() {
+        if self.mark != FED || self.was_asked() || self.was_asked_bare() {
             return Err(Refusal::WrongUse(self.asking_misuse()));
         }
         match self.open_questions(key, signature, sig_text, allow_legacy, questions, message) {
@@ -97,9 +97,10 @@ impl State {
         }
     }
 
-    /// Asks as `ask` does, but only if neither the key nor a signature is weak (strict Ed25519 rejects its
-    /// bytes, whatever the message is). Returns true if it asked, and false if the only problem is that one
-    /// of them is weak. The comment signature is only tested if it has at least 64 bytes. Does not allocate.
+    /// Writes the questions as `ask` does, but only if neither the key nor a signature is weak (strict
+    /// Ed25519 rejects its bytes, whatever the message is). Returns true if it wrote the questions, and false
+    /// if the only problem is that one of them is weak. The comment signature is only tested if it has at
+    /// least 64 bytes. Does not allocate.
     pub fn ask_strictly(
         &mut self,
         key: &PublicKeyValue,
@@ -113,23 +114,23 @@ impl State {
         // if neither the key nor a signature is weak. The comment signature is only tested if it has at least
         // 64 bytes.
         ensures value { result ≡ asked_strictly (is_strict_value key.now signature.now)
-            (asking_result self.old key.now signature.now sig_text.now allow_legacy (length message.old)) }
+            (result_of_asking self.old key.now signature.now sig_text.now allow_legacy (length message.old)) }
 
         // If the signature was read from this text, the result is the same as if the text were parsed here
         // and checked under this key.
         ensures text { (t : SignatureTextRecord) → IsReadFrom signature.now sig_text.now t
             → result ≡ asked_strictly (is_strict_text key.now t)
-            (asking_under self.old key.now sig_text.now allow_legacy (length message.old)) }
+            (result_of_asking_with_text self.old key.now sig_text.now allow_legacy (length message.old)) }
 
         // If the result is true, the questions, the message and the state are as a successful `ask` leaves
         // them. The data that the state was fed is unchanged.
         ensures asked { result ≡ Ok true → (t : SignatureTextRecord) → IsReadFrom signature.now sig_text.now t
             → (read_under key.now allow_legacy sig_text.now ≡ Ok t)
             × AreQuestionsWithoutDigest questions.new message.new
-            key.now t × HasAsked self.new key.now sig_text.now allow_legacy }
+            key.now t × WasAskedAbout self.new key.now sig_text.now allow_legacy }
         ensures fed { (m : List ℕ) → IsFedState self.old m → IsFedState self.new m }
-        ensures state { result ≡ Ok true → self.new ≡ asked_about self.old signature.now }
-        ensures questions { result ≡ Ok true → questions.new ≡ questions_about key.now signature.now }
+        ensures state { result ≡ Ok true → self.new ≡ state_after_asking self.old signature.now }
+        ensures questions { result ≡ Ok true → questions.new ≡ questions_for_value key.now signature.now }
         ensures message { result ≡ Ok true → HoldsCommentMessage signature.now sig_text.now message.new }
 
         // If the result is true, the buffer after the message is unchanged. Otherwise the state, the
@@ -161,19 +162,19 @@ impl State {
         allow_legacy: bool,
         room: usize,
     ) -> Result<(), Refusal>
-        ensures { result ≡ asking_result self.now key.now signature.now sig_text.now allow_legacy room }
+        ensures { result ≡ result_of_asking self.now key.now signature.now sig_text.now allow_legacy room }
     {
-        let may_ask = self.mark == FED && !self.is_asked() && !self.is_asked_bare();
-        if !may_ask {
+        let can_be_asked = self.mark == FED && !self.was_asked() && !self.was_asked_bare();
+        if !can_be_asked {
             return Err(Refusal::WrongUse(self.asking_misuse()));
         }
         check_questions(key, signature, sig_text, allow_legacy, room)
     }
 
-    /// Asks as `ask` does, but after the data was fed, and even if the state was asked before. Also finalizes
-    /// the digest and writes it to the questions; the state then accepts no more data. Returns the trusted
-    /// comment, which is not verified yet. After an error, the state, the questions and the buffer are
-    /// unchanged.
+    /// Writes the questions as `ask` does, but after the data was fed, and even if the state was asked
+    /// before. Also finalizes the digest and writes it to the questions; the state then accepts no more data.
+    /// Returns the trusted comment, which is not verified yet. After an error, the state, the questions and
+    /// the buffer are unchanged.
     pub fn ask_fed<'a>(
         &mut self,
         key: &PublicKeyValue,
@@ -183,30 +184,32 @@ impl State {
         questions: &mut Questions,
         message: &mut [u8],
     ) -> Result<&'a str, Refusal>
-        // On success, if the signature was read from this text, `questions` holds the two questions about the
-        // key and the text, and the result is the trusted comment. The digest in the questions is that of all
-        // data that the state was fed, and the state accepts no more data.
+        // On success, if the signature was read from this text, `questions` holds the inputs of the two
+        // checks for the key and the text, and the result is the trusted comment. The digest in the questions
+        // is that of all data that the state was fed, and the state accepts no more data.
         ensures asked { IfOk result (λ c. (t : SignatureTextRecord) → IsReadFrom signature.now sig_text.now t
             → (read_under key.now allow_legacy sig_text.now ≡ Ok t) × AreQuestions questions.new message.new
-            key.now t × HasAsked self.new key.now sig_text.now allow_legacy × (c.now ≡ t.comments.trusted)) }
+            key.now t × WasAskedAbout self.new key.now sig_text.now allow_legacy
+            × (c.now ≡ t.comments.trusted)) }
         ensures digest { OnOk result
             ((m : List ℕ) → IsFedState self.old m → (questions.new.digest ≡ blake2b_digest 64 m)
             × HasReturnedDigest self.new m) }
         ensures finalized { OnOk result (IsMarkedFinalized self.new) }
 
         // On success, whatever the signature was read from: nothing of the state is changed but its mark and
-        // the record that it was asked, the questions are those about the key and the signature, with the
+        // the record that it was asked, the questions are those for the key and the signature, with the
         // digest, and the message is the data signature followed by the trusted comment.
         ensures state { OnOk result
-            (self.new ≡ record (asked_about self.old signature.now) { mark = finalized_mark }) }
-        ensures questions { OnOk result (questions.new ≡ record (questions_about key.now signature.now)
+            (self.new ≡ record (state_after_asking self.old signature.now) { mark = finalized_mark }) }
+        ensures questions { OnOk result (questions.new ≡ record (questions_for_value key.now signature.now)
             { digest = questions.new.digest }) }
         ensures message { OnOk result (HoldsCommentMessage signature.now sig_text.now message.new) }
 
         // On success, the key and the signature were read, the signature was read from this text, and the
         // key, the signature, the text and the buffer size cause none of the errors of `ask`.
         ensures checks_passed { OnOk result
-            (asking_checks key.now signature.now sig_text.now allow_legacy (length message.old) ≡ Ok tt) }
+            (check_ask_arguments key.now signature.now sig_text.now allow_legacy
+            (length message.old) ≡ Ok tt) }
 
         // Errors are checked in this order: the state accepts no data; then those of `ask` about the key, the
         // signature, the text and the buffer size. After an error, the state, the questions and the buffer
@@ -248,14 +251,15 @@ impl State {
         message: &mut [u8],
     ) -> Result<&'a str, Refusal>
         ensures value { MatchResult result
-            (λ _. asking_checks key.now signature.now sig_text.now allow_legacy (length message.old) ≡ Ok tt)
-            (λ r. asking_checks key.now signature.now sig_text.now allow_legacy
+            (λ _. check_ask_arguments key.now signature.now sig_text.now allow_legacy
+            (length message.old) ≡ Ok tt)
+            (λ r. check_ask_arguments key.now signature.now sig_text.now allow_legacy
             (length message.old) ≡ Err r) }
-        ensures questions { OnOk result (questions.new ≡ questions_about key.now signature.now) }
+        ensures questions { OnOk result (questions.new ≡ questions_for_value key.now signature.now) }
         ensures comment { IfOk result (λ c. (comment_of signature.now sig_text.now ≡ Ok c.now)
             × (length c.now ≡ signature.now.comment_len) × (64 + length c.now ≤ length message.old)
             × (take (64 + length c.now) message.new ≡ signature.now.signature ++ c.now)) }
-        ensures asked { OnOk result (self.new ≡ asked_about self.old signature.now) }
+        ensures asked { OnOk result (self.new ≡ state_after_asking self.old signature.now) }
         ensures unchanged { OnErr result
             ((self.new ≡ self.old) × (questions.new ≡ questions.old) × (message.new ≡ message.old)) }
         ensures rest_unchanged { OnOk result
@@ -267,7 +271,7 @@ impl State {
         let comment = signature.comment_in(sig_text)?;
         judge_key(&key.key_id, &signature.signature(), allow_legacy)?;
         let len = write_comment_message(&signature.signature, comment.as_bytes(), message)?;
-        *questions = questions_about(key, signature, len as u64);
+        *questions = questions_for_value(key, signature, len as u64);
         self.asked = Asked {
             mark: ASKED,
             whole: u64::from(signature.whole),
@@ -283,15 +287,16 @@ impl State {
         // the call succeeds exactly if the comment signature is valid under the key. It says nothing about
         // any data.
         ensures verdict { (v : PublicKeyValue) (sig_text : List ℕ) (legacy : Bool) (accepts : Verifier)
-            → HasAsked self.now v sig_text legacy → AnswersComment accepts v sig_text second → is_begun
-            self.now ≡ true → result ≡ given_verdict (comment_verdict_under accepts v sig_text legacy) }
+            → WasAskedAbout self.now v sig_text legacy → AnswersComment accepts v sig_text second → is_begun
+            self.now ≡ true
+            → result ≡ without_trusted_comment (comment_verdict_under accepts v sig_text legacy) }
 
         // It is API misuse if nothing was asked, or if the state was never initialized or was finished by a
         // verdict. Otherwise the call succeeds exactly if the comment signature has at least 64 bytes and
         // `second` is true.
         ensures value { result ≡ comment_result self.now second }
     {
-        if !self.is_begun() || !self.is_asked() {
+        if !self.is_begun() || !self.was_asked() {
             return Err(Refusal::WrongUse(self.verdict_misuse()));
         }
         match comment_verdict(self.asked.whole == 1, second) {
@@ -311,16 +316,16 @@ impl State {
         // `second` are the results of the two checks: the result is the verdict on the key, the signature
         // text and the message.
         ensures verdict { (v : PublicKeyValue) (sig message : List ℕ) (legacy : Bool) (accepts : Verifier)
-            → HasAsked self.old v sig legacy → IsMarkedFinalized self.old
+            → WasAskedAbout self.old v sig legacy → IsMarkedFinalized self.old
             → Answers accepts v sig message first
-            second → result ≡ given_verdict (verdict_under accepts v sig message legacy) }
+            second → result ≡ without_trusted_comment (verdict_under accepts v sig message legacy) }
 
         // So for every public key file that contains this key: the call succeeds exactly if the signature
         // file is a valid signature of the message under that public key. Otherwise the error is that of
         // the first check that fails.
         ensures same_verdict_as_texts { (v : PublicKeyValue) (pk sig message : List ℕ) (legacy : Bool)
             (accepts : Verifier)
-            → HasAsked self.old v sig legacy → IsMarkedFinalized self.old → IsKeyText pk v
+            → WasAskedAbout self.old v sig legacy → IsMarkedFinalized self.old → IsKeyText pk v
             → Answers accepts v sig message first second → GivesVerdict accepts pk sig message legacy result }
 
         // It is API misuse if nothing was asked or the digest was not returned; then the state is unchanged.
@@ -328,7 +333,7 @@ impl State {
         // signature has at least 64 bytes and `second` is true.
         ensures value { (result, self.new) ≡ verdict_outcome self.old first second }
     {
-        if self.mark != FINALIZED || !self.is_asked() {
+        if self.mark != FINALIZED || !self.was_asked() {
             return Err(Refusal::WrongUse(self.verdict_misuse()));
         }
         self.mark = 0;
@@ -371,7 +376,7 @@ fn check_questions(
     allow_legacy: bool,
     room: usize,
 ) -> Result<(), Refusal>
-    ensures { result ≡ asking_checks key.now signature.now sig_text.now allow_legacy room }
+    ensures { result ≡ check_ask_arguments key.now signature.now sig_text.now allow_legacy room }
 {
     if !key.is_public_key() {
         return Err(Refusal::WrongUse(Misuse::PublicKeyNotRead));
@@ -395,10 +400,14 @@ fn check_buffers(comment_len: u64, room: usize) -> Result<(), Refusal>
     Ok(())
 }
 
-// Returns the questions about a key and a signature, with zeros in place of the digest. `message_len` is the
-// length of the message of the second question.
-fn questions_about(key: &PublicKeyValue, signature: &SignatureValue, message_len: u64) -> Questions
-    ensures { result ≡ record (questions_about key.now signature.now) { message_len = message_len } }
+// Returns the questions for a key and a signature, with zeros in place of the digest. `message_len` is the
+// length of the message of the second check.
+fn questions_for_value(
+    key: &PublicKeyValue,
+    signature: &SignatureValue,
+    message_len: u64,
+) -> Questions
+    ensures { result ≡ record (questions_for_value key.now signature.now) { message_len = message_len } }
 {
     Questions {
         public_key: key.key,

@@ -5,11 +5,11 @@
 ghost use Rattle.std.specs.Prelude.{◌≡◌, ℕ, Bool, List, Ok, true};
 ghost use Rattle.minisign.specs.Acceptance.{Verifier};
 ghost use Rattle.minisign.specs.Records.{SignatureRecord};
-ghost use Rattle.minisign_external.specs.Bare.{AnswersBare, HasAskedBare, bare_asking_checks, bare_asking};
-ghost use Rattle.minisign_external.specs.Bare.{bare_question, bare_verdict_under, bare_asking_outcome};
-ghost use Rattle.minisign_external.specs.Bare.{bare_verdict_outcome};
+ghost use Rattle.minisign_external.specs.Bare.{AnswersBare, WasAskedAboutBare, check_ask_bare_arguments};
+ghost use Rattle.minisign_external.specs.Bare.{result_of_asking_bare, bare_question, bare_verdict_under};
+ghost use Rattle.minisign_external.specs.Bare.{bare_asking_outcome, bare_verdict_outcome};
 ghost use Rattle.minisign_external.specs.Signatures.{signature_of_value};
-ghost use Rattle.minisign_external.specs.States.{IsFedState, IsMarkedFinalized, decision};
+ghost use Rattle.minisign_external.specs.States.{IsFedState, IsMarkedFinalized, result_of_check};
 ghost use Rattle.minisign_external.specs.declared.public_keys.PublicKeyValue.{PublicKeyValue};
 
 use crate::public_keys::PublicKeyValue;
@@ -35,21 +35,22 @@ impl State {
         allow_legacy: bool,
         questions: &mut Questions,
     ) -> Result<bool, Refusal>
-        // If the result is true, `questions` holds the question about the key and the signature, with zeros
-        // in place of the digest and in the fields about a comment, and the state records that it was asked
-        // about a bare signature. Otherwise the state and the questions are unchanged, and the result is the
-        // first error that applies or, if there is no error, false, because the key or the signature is weak.
+        // If the result is true, `questions` holds the inputs of the check for the key and the signature,
+        // with zeros in place of the digest and in the fields about a comment, and the state records that it
+        // was asked about a bare signature. Otherwise the state and the questions are unchanged, and the
+        // result is the first error that applies or, if there is no error, false, because the key or the
+        // signature is weak.
         ensures value { (result, self.new, questions.new) ≡ bare_asking_outcome
-            (bare_asking self.old key.now signature.now allow_legacy) key.now signature.now self.old
+            (result_of_asking_bare self.old key.now signature.now allow_legacy) key.now signature.now self.old
             questions.old }
 
         // The data that the state was fed is unchanged. If the result is true, the state was asked about this
         // key and this signature, which has passed the checks that need no scheme.
         ensures fed { (m : List ℕ) → IsFedState self.old m → IsFedState self.new m }
         ensures asked { result ≡ Ok true
-            → HasAskedBare self.new key.now (signature_of_value signature.now) allow_legacy }
+            → WasAskedAboutBare self.new key.now (signature_of_value signature.now) allow_legacy }
     {
-        if self.mark != FED || self.is_asked() || self.is_asked_bare() {
+        if self.mark != FED || self.was_asked() || self.was_asked_bare() {
             return Err(Refusal::WrongUse(self.asking_misuse()));
         }
         check_bare(key, signature, allow_legacy)?;
@@ -75,16 +76,16 @@ impl State {
         // `first` is the result of the check: the result is the verdict on the key, the bare signature and
         // the message.
         ensures verdict { (v : PublicKeyValue) (s : SignatureRecord) (message : List ℕ) (legacy : Bool)
-            (accepts : Verifier) → HasAskedBare self.old v s legacy → IsMarkedFinalized self.old
+            (accepts : Verifier) → WasAskedAboutBare self.old v s legacy → IsMarkedFinalized self.old
             → AnswersBare accepts v s message first
-            → result ≡ decision (bare_verdict_under accepts v s message legacy) }
+            → result ≡ result_of_check (bare_verdict_under accepts v s message legacy) }
 
         // It is API misuse if the state was not asked about a bare signature or the digest was not
         // returned; then the state is unchanged. Otherwise the state is finished, and the call succeeds
         // exactly if `first` is true.
         ensures value { (result, self.new) ≡ bare_verdict_outcome self.old first }
     {
-        if self.mark != FINALIZED || !self.is_asked_bare() {
+        if self.mark != FINALIZED || !self.was_asked_bare() {
             return Err(Refusal::WrongUse(self.verdict_misuse()));
         }
         self.mark = 0;
@@ -102,7 +103,7 @@ fn check_bare(
     signature: &SignatureValue,
     allow_legacy: bool,
 ) -> Result<(), Refusal>
-    ensures { result ≡ bare_asking_checks key.now signature.now allow_legacy }
+    ensures { result ≡ check_ask_bare_arguments key.now signature.now allow_legacy }
 {
     if !key.is_public_key() {
         return Err(Refusal::WrongUse(Misuse::PublicKeyNotRead));
@@ -116,7 +117,7 @@ fn check_bare(
     }
 }
 
-// Returns the question about a key and a signature, with zeros in place of the digest.
+// Returns the inputs of the check for a key and a signature, with zeros in place of the digest.
 fn bare_question(key: &PublicKeyValue, signature: &SignatureValue) -> Questions
     ensures { result ≡ bare_question key.now signature.now }
 {

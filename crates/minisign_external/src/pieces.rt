@@ -16,9 +16,8 @@ ghost use Rattle.minisign_external.specs.Signing.{HoldsSignatureFile, IsPairOf, 
 ghost use Rattle.minisign_external.specs.Signing.{IsSigningRefusal, SignedFileVerifies, joined};
 ghost use Rattle.minisign_external.specs.Signing.{IsTextSigningRefusal};
 ghost use Rattle.minisign_external.specs.PublicKeys.{is_public_key};
-ghost use Rattle.minisign_external.specs.States.{AreQuestionsWithoutDigest, HasAsked, IsFedState};
-ghost use Rattle.minisign_external.specs.States.{KeepsQuestions, given_verdict};
-ghost use Rattle.minisign_external.specs.States.{with_public_key};
+ghost use Rattle.minisign_external.specs.States.{AreQuestionsWithoutDigest, WasAskedAbout, IsFedState};
+ghost use Rattle.minisign_external.specs.States.{KeepsQuestions, without_trusted_comment, with_public_key};
 ghost use Rattle.minisign_external.specs.declared.public_keys.PublicKeyValue.{PublicKeyValue};
 ghost use Rattle.minisign_external.specs.declared.secrets.SecretKeyValue.{SecretKeyValue};
 ghost use Rattle.minisign_external.specs.declared.state.Questions.{Questions};
@@ -50,7 +49,7 @@ pub fn verify_pieces<S: Scheme>(
     // result is the verdict on the key, the file and the concatenated data. The call succeeds exactly if the
     // signature is valid and prehashed; otherwise the error is that of the first check that fails. A public
     // key that was not read is API misuse.**
-    ensures { result ≡ with_public_key key.now (given_verdict
+    ensures { result ≡ with_public_key key.now (without_trusted_comment
         (verdict_under (S.accepts scheme.now) key.now sig_text.now (joined pieces.now)
         false)) }
 {
@@ -87,8 +86,8 @@ pub fn sign_pieces<S: Scheme>(
         (take len to.new) (joined pieces.now) false ≡ Ok trusted.now) }
 
     // On success, the signature file contains the two signatures that the scheme makes with the key: the
-    // signature of the digest of the concatenated data, and the signature of the first signature followed by
-    // the trusted comment. The rest of the buffer is unchanged.
+    // signature of the digest of the concatenated data, and the signature of the concatenation of that
+    // signature and the trusted comment. The rest of the buffer is unchanged.
     ensures text { IfOk result (HoldsSignedFile S.Scheme scheme.now key.now
         (comments_of trusted.now untrusted.now) (joined pieces.now) to.new) }
     ensures rest_unchanged { IfOk result (λ len. drop len to.new ≡ drop len to.old) }
@@ -154,7 +153,7 @@ fn verify_read<S: Scheme>(
     requires room { length sig_text.now ≤ length room.old }
     requires key { is_public_key key.now ≡ true }
     requires read { (t : SignatureTextRecord) × IsReadFrom signature.now sig_text.now t }
-    ensures { result ≡ given_verdict
+    ensures { result ≡ without_trusted_comment
         (verdict_under (S.accepts scheme.now) key.now sig_text.now (joined pieces.now)
         false) }
 {
@@ -201,9 +200,9 @@ fn finish<S: Scheme>(
 ) -> Result<(), Refusal>
     requires { questions.now.message_len ≤ length room.now }
     ensures { (v : PublicKeyValue) (text m : List ℕ) (t : SignatureTextRecord) → IsFedState state m
-        → HasAsked state v text false → read_under v false text ≡ Ok t
+        → WasAskedAbout state v text false → read_under v false text ≡ Ok t
         → AreQuestionsWithoutDigest questions.now room.now v
-        t → result ≡ given_verdict (verdict_under (S.accepts scheme.now) v text m false) }
+        t → result ≡ without_trusted_comment (verdict_under (S.accepts scheme.now) v text m false) }
 {
     let mut digest = [0u8; 64];
     state.digest(&mut digest)?;
@@ -229,7 +228,7 @@ fn digest_of(pieces: &[&[u8]]) -> Result<[u8; 64], Misuse>
 }
 
 // Returns the signatures that the scheme makes with a key: the signature of the digest, and the signature of
-// the first signature followed by the trusted comment.
+// the concatenation of that signature and the trusted comment.
 fn sign_both<S: Scheme>(
     scheme: &S,
     key: &SecretKeyValue,
@@ -251,13 +250,13 @@ fn sign_both<S: Scheme>(
     Ok((first, second))
 }
 
-/// States that the results of a scheme for the two questions are the results that decide the verdict. This
-/// function is a law: it does nothing, and exists only for its contract.
+/// States that a scheme's results of the two checks that `State::ask` asks for are those on which the verdict
+/// depends. This function is a law: it does nothing, and exists only for its contract.
 #[tactic(auto, using(crate::proofs::ResultsOfQuestions::results_of_questions, crate::proofs::SignedFiles::own_verdict))]
 pub fn results_decide_verdict()
-    // If the application asks its scheme the two questions, with the digest of a message in the first, then
-    // the scheme's results are the results of the two checks for the key, the signature text and that
-    // message. The promise of `State::verdict` needs this.
+    // If the application makes the two checks with its scheme, with the inputs that `State::ask` returned and
+    // the digest of a message, then their results are those of the two checks for the key, the signature text
+    // and that message. The promise of `State::verdict` needs this.
     ensures results_are_checks { (accepts : Verifier) (v : PublicKeyValue) (text message room digest : List ℕ)
         (t : SignatureTextRecord) (q : Questions) → read_under v false text ≡ Ok t
         → AreQuestionsWithoutDigest q room v t
@@ -265,10 +264,10 @@ pub fn results_decide_verdict()
         q.signature → second ≡ accepts (take q.message_len room) q.public_key q.comment_signature
         → Answers accepts v text message first second }
 
-    // If a scheme accepts both signatures in a signature file, of the digest of a message and of the first
-    // signature followed by the trusted comment, under the public key of a seed, then the file verifies under
-    // that public key: the verdict on the file and the message is the trusted comment. The file must have
-    // been written for the key that consists of the seed and this public key.
+    // If a scheme accepts both signatures in a signature file (that of the digest of a message, and that of
+    // the concatenation of this signature and the trusted comment) under the public key of a seed, then the
+    // file verifies under that public key: the verdict on the file and the message is the trusted comment.
+    // The file must have been written for the key that consists of the seed and this public key.
     ensures signed_file_verifies { (accepts : Verifier) (public_of : List ℕ
         → List ℕ) (seed : List ℕ) (v : SecretKeyValue)
         (w : PublicKeyValue) → IsPairOf public_of seed v → is_opened v ≡ true → public_value_of v ≡ Ok w

@@ -22,9 +22,9 @@ use minisign::SignatureBox;
 use minisign_base::NamedFault;
 use std::alloc::Global;
 
-/// Returns a signature file, the four lines that Minisign reads, with this key ID, the two signatures that a
-/// scheme made, and the two comments. `second` must be the signature of `first` followed by the trusted
-/// comment.
+/// Returns a signature file, the four lines that Minisign reads, with this key ID, two signatures that a
+/// scheme made, and two comments. `first` must be the signature of the digest of the data, and `second` the
+/// signature of the concatenation of `first` and the trusted comment.
 pub fn signed_text(
     alloc: Global,
     key_id: &[u8; 8],
@@ -34,10 +34,11 @@ pub fn signed_text(
     untrusted: &str,
 ) -> std::result::Result<String, Refusal>
     // On success, the result parses to a signature with exactly this key ID, these comments and these
-    // signatures. If a scheme made the two signatures, the result parses to the signature box that signing
-    // with this scheme makes. The result is a valid signature of a message under every public key that has
-    // this key ID and under which both signatures are valid. If the key is genuine, everything that the
-    // headline of docs/PROMISES.md says about signing holds for the result.
+    // signatures. If these are the signatures that a scheme makes with a key for a message, the result parses
+    // to the same signature box as when the library signs the message with this key and scheme. The result is
+    // a valid signature of a message under every public key that has this key ID and under which both
+    // signatures are valid for the message. If the key is genuine (its secret is a seed followed by the
+    // seed's public key), statement 3 of the section "The headline" in docs/PROMISES.md holds for the result.
     ensures text { IfOk result (λ t.
         IsSignatureFileOf key_id.now (comments_of trusted.now untrusted.now) first.now second.now
         (string_bytes t)) }
@@ -114,15 +115,15 @@ pub(crate) fn write_front(bytes: &[u8], to: &mut [u8]) -> Option<usize>
     Some(bytes.len())
 }
 
-/// Writes the message of the second question to the start of `message`: the first signature followed by the
-/// trusted comment. Returns its length, which is 64 bytes more than that of the comment. If the buffer is too
-/// short, nothing is written.
+/// Writes the message of the comment signature to the start of `message`: the data signature (`first`)
+/// followed by the trusted comment. Returns its length, which is 64 bytes more than that of the comment. If
+/// the buffer is too short, nothing is written.
 pub fn write_comment_message(
     first: &[u8; 64],
     trusted: &[u8],
     message: &mut [u8],
 ) -> Result<usize, Misuse>
-    // On success, the first signature followed by the trusted comment is at the start of the buffer, and the
+    // On success, the data signature followed by the trusted comment is at the start of the buffer, and the
     // rest of the buffer is unchanged. The only error is a buffer that is too short; then it is unchanged.
     ensures message { IfOk result (λ n. (n ≡ 64 + length trusted.now) × (n ≤ length message.new)
         × (take n message.new ≡ first.now ++ trusted.now)) }
@@ -153,7 +154,11 @@ fn check_comments(trusted: &str, untrusted: &str) -> Result<(), Misuse>
     Ok(())
 }
 
-// Returns true if Minisign 0.11 reads the comments back unchanged.
+// Returns true if Minisign 0.11 reads the comments back unchanged, provided that they have no line feeds,
+// which `are_read_back` checks. Minisign reads the line of the untrusted comment into a buffer of 1,024
+// bytes, and that of the trusted comment into one of 8,192. The buffer also holds the label (19 or 17 bytes),
+// the line feed and a final zero, so the comments have at most 1,003 and 8,173 bytes. Minisign cuts a line at
+// a zero byte (0) and at a carriage return (13).
 fn are_read_by_minisign(trusted: &[u8], untrusted: &[u8]) -> bool
     ensures read { result ≡ true → AreReadByMinisign (comments_of trusted.now untrusted.now) }
     ensures unread { result ≡ false → ¬ (AreReadByMinisign (comments_of trusted.now untrusted.now)) }
@@ -166,7 +171,9 @@ fn are_read_by_minisign(trusted: &[u8], untrusted: &[u8]) -> bool
         && !trusted.contains(&13)
 }
 
-// Returns true if this library reads the comments back unchanged.
+// Returns true if this library reads the comments back unchanged: neither has a line feed (10), the untrusted
+// comment does not end with a carriage return (13), and the trusted one does not begin or end with white
+// space.
 fn are_read_back(trusted: &str, untrusted: &str) -> bool
     ensures read_back { result ≡ true → AreChosenReadBack (comments_of trusted.now untrusted.now) }
     ensures unkept { result ≡ false → ¬ (AreChosenReadBack (comments_of trusted.now untrusted.now)) }
@@ -177,7 +184,7 @@ fn are_read_back(trusted: &str, untrusted: &str) -> bool
         && trusted.trim() == trusted
 }
 
-// Returns the four lines of the file.
+// Returns the signature file, which has four lines, without checking the comments.
 fn written(
     alloc: Global,
     key_id: &[u8; 8],

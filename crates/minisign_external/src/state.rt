@@ -9,9 +9,7 @@ ghost use Rattle.minisign_hash.specs.Blake2b.{blake2b_digest};
 ghost use Rattle.minisign_hash.specs.Fed.{IsFed, has_finalized, output_length};
 ghost use Rattle.minisign_external.specs.States.{HasReturnedDigest, IsBlank, IsFedState, IsMarkedFed};
 ghost use Rattle.minisign_external.specs.States.{IsMarkedFinalized, IsNotFed, KeepsQuestions, fed_mark};
-ghost use Rattle.minisign_external.specs.States.{is_asked};
-ghost use Rattle.minisign_external.specs.States.{is_asked_bare};
-ghost use Rattle.minisign_external.specs.States.{is_begun, no_questions};
+ghost use Rattle.minisign_external.specs.States.{was_asked, was_asked_bare, is_begun, no_questions};
 ghost use Rattle.minisign_external.specs.declared.state.Refusal.TheVariants.{Refused, WrongUse};
 
 use minisign_base::PError;
@@ -200,9 +198,9 @@ impl State {
     /// Feeds the next bytes of the data. Fails if the state was never initialized, was finished by a verdict,
     /// or its digest was already returned. Then the state is unchanged. Does not allocate.
     pub fn update(&mut self, piece: &[u8]) -> Result<(), Misuse>
-        // On success, the piece is appended to the data that the state was fed. The record of the questions
-        // that were asked is unchanged. The call fails only if the digest was already returned, or if the
-        // state was never initialized or was finished by a verdict. After an error, the state is unchanged.
+        // On success, the piece is appended to the data that the state was fed. What the state records about
+        // being asked is unchanged. The call fails only if the digest was already returned, or if the state
+        // was never initialized or was finished by a verdict. After an error, the state is unchanged.
         ensures fed { (m : List ℕ) → IsFedState self.old m
             → MatchResult result (λ _. IsFedState self.new (m ++ piece.now)) (λ _. ⊥) }
         ensures questions_kept { KeepsQuestions self.old self.new }
@@ -220,9 +218,9 @@ impl State {
     /// errors are those of `update`. After an error, the state and `digest` are unchanged.
     pub fn digest(&mut self, digest: &mut [u8; 64]) -> Result<(), Misuse>
         // On success, the digest is the Blake2b digest (64 bytes) of all data that the state was fed, and the
-        // state accepts no more data. The record of the questions that were asked is unchanged. The call
-        // fails only if the digest was already returned, or if the state was never initialized or was
-        // finished by a verdict. After an error, the state and the digest are unchanged.
+        // state accepts no more data. What the state records about being asked is unchanged. The call fails
+        // only if the digest was already returned, or if the state was never initialized or was finished by a
+        // verdict. After an error, the state and the digest are unchanged.
         ensures digest { (m : List ℕ) → IsFedState self.old m
             → MatchResult result (λ _. (digest.new ≡ blake2b_digest 64 m) × HasReturnedDigest self.new m)
             (λ _. ⊥) }
@@ -245,16 +243,16 @@ impl State {
         self.mark == FED || self.mark == FINALIZED
     }
 
-    // Returns true if questions were asked.
-    pub(crate) fn is_asked(&self) -> bool
-        ensures { result ≡ is_asked self.now }
+    // Returns true if the state was asked about a signature file.
+    pub(crate) fn was_asked(&self) -> bool
+        ensures { result ≡ was_asked self.now }
     {
         self.asked.mark == ASKED
     }
 
-    // Returns true if the question about a bare signature was asked.
-    pub(crate) fn is_asked_bare(&self) -> bool
-        ensures { result ≡ is_asked_bare self.now }
+    // Returns true if the state was asked about a bare signature.
+    pub(crate) fn was_asked_bare(&self) -> bool
+        ensures { result ≡ was_asked_bare self.now }
     {
         self.asked.mark == BARE_ASKED
     }

@@ -31,9 +31,9 @@ pub fn public_record(key_id: &[u8; 8], key: &[u8; 32]) -> [u8; 42] {
     joined(&[b"Ed", key_id, key])
 }
 
-/// Returns the record of a signature whose first half is 32 zeros and whose second half is `tied`.
-pub fn signature_record(algorithm: &[u8; 2], key_id: &[u8; 8], tied: &[u8; 32]) -> [u8; 74] {
-    joined(&[algorithm, key_id, &[0; 32], tied])
+/// Returns the record of a signature whose first half is 32 zeros and whose second half is `second_half`.
+pub fn signature_record(algorithm: &[u8; 2], key_id: &[u8; 8], second_half: &[u8; 32]) -> [u8; 74] {
+    joined(&[algorithm, key_id, &[0; 32], second_half])
 }
 
 /// Returns the record of key A's secret key, with this key derivation and this checksum. The salt,

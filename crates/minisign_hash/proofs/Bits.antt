@@ -1,4 +1,4 @@
--- Lemmas about an exclusive or that is zero.
+-- Lemmas about a bitwise exclusive or, or a bitwise or, that is zero.
 use Rattle.std.proofs.Common.{◌≡◌, ℕ, ◌∙◌, bit_or, bit_xor, sym, ap, arith}
 use Rattle.std.proofs.lemmas.Nat.{le_or_l, le_or_r}
 use Rattle.std.specs.Int.Bits.{xor_assoc, xor_self, xor_zero_l, xor_zero_r}
@@ -13,8 +13,10 @@ same_from_xor x y h =
 pub xor_from_same : (x y : ℕ) → x ≡ y → bit_xor x y ≡ 0
 xor_from_same x y e = ap (bit_xor x) (sym e) ∙ xor_self x
 
+-- If the bitwise or of two numbers is zero, the left number is zero.
 pub left_from_or : (x y : ℕ) → bit_or x y ≡ 0 → x ≡ 0
 left_from_or x y h = omega (arith, le_or_l x y)
 
+-- If the bitwise or of two numbers is zero, the right number is zero.
 pub right_from_or : (x y : ℕ) → bit_or x y ≡ 0 → y ≡ 0
 right_from_or x y h = omega (arith, le_or_r x y)

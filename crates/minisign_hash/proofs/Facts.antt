@@ -1,5 +1,5 @@
--- Known values of the definitions: where the initialization vector comes from, and digests of 64
--- and of 32 bytes, which Python's hashlib and b2sum also give. A wrong constant or step in a
+-- Known values of the definitions: the square roots from which the initialization vector comes, and digests
+-- of 64 and of 32 bytes, which Python's hashlib and b2sum also give. A wrong constant or step in a
 -- definition, or a wrong byte here, makes the proof fail.
 use Rattle.std.proofs.Common.{◌≡◌, refl, ℕ, ◌+◌, ◌-◌, ◌*◌, ◌^◌, ◌&&◌, nat_le, nat_lt, Bool, true}
 use Rattle.std.proofs.Common.{if◌then◌else◌, List, [], ◌∷◌, ◌++◌, codes, slice_index}
@@ -62,14 +62,14 @@ pub digest_of_abc : blake2b_digest 64 (codes "abc") ≡
 unfolding digests
 digest_of_abc = refl
 
--- The bytes 0 to 127: one whole block, which is the last.
+-- The message of the bytes 0 to 127: one whole block, which is also the last block.
 pub digest_of_one_block : blake2b_digest 64 (range_with_len 0 128) ≡
     hex "23 19 E3 78 9C 47 E2 DA A5 FE 80 7F 61 BE C2 A1 A6 53 7F A0 3F 19 FF 32 E8 7E EC BF D6 4B 7E 0E" ++
     hex "8C CF F4 39 AC 33 3B 04 0F 19 B0 C4 DD D1 1A 61 E2 4A C1 FE 0F 10 A0 39 80 6C 5D CC 0D A3 D1 15"
 unfolding digests
 digest_of_one_block = refl
 
--- The bytes 0 to 128: the last one is in a second block.
+-- The message of the bytes 0 to 128: the last byte is in a second block.
 pub digest_of_two_blocks : blake2b_digest 64 (range_with_len 0 129) ≡
     hex "F5 97 11 D4 4A 03 1D 5F 97 A9 41 3C 06 5D 1E 61 4C 41 7E DE 99 85 90 32 5F 49 BA D2 FD 44 4D 3E" ++
     hex "44 18 BE 19 AE C4 E1 14 49 AC 1A 57 20 78 98 BC 57 D7 6A 1B CF 35 66 29 2C 20 C6 83 A5 C4 64 8F"

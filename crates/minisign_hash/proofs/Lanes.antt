@@ -1,5 +1,5 @@
--- Lemmas about vectors: rows of four words as their lanes, a rotation as two shifts, and words as
--- the numbers of their bytes.
+-- Lemmas about SIMD vectors: a row of four words is the list of its four lanes, two shifts rotate a lane, and
+-- the words that are read from bytes are the numbers that the bytes encode.
 use Rattle.std.proofs.Common.{◌≡◌, ℕ, ◌+◌, ◌-◌, ◌*◌, ◌/◌, ◌%◌, ◌^◌, ◌<◌, ◌≤◌, List, [], ◌∷◌, ◌++◌, length}
 use Rattle.std.proofs.Common.{take, drop, slice_index, bit_or, bit_xor, arith, refl, sym, ap, ◌∙◌, w8, w64}
 use Rattle.std.proofs.Common.{Fits}
@@ -10,6 +10,7 @@ use Rattle.std.specs.Simd.Lanes.{Each1, chunk, digits_l, number_l, zip2}
 use Rattle.minisign_hash.specs.Blake2b.{add64, mix}
 use Rattle.minisign_hash.proofs.Lists.{eight_of}
 
+-- A list of length four is the list of its elements at the indices 0 to 3.
 pub four_of : (xs : List ℕ) → length xs ≡ 4 → xs ≡ slice_index xs 0 ∷ slice_index xs 1 ∷ slice_index xs 2
     ∷ slice_index xs 3 ∷ []
 four_of xs h = sym (pick_l_whole 0 xs 4 h)
@@ -40,7 +41,7 @@ row v i = slice_index v i ∷ slice_index v (i + 1) ∷ slice_index v (i + 2) �
 abbrev xor_right : ℕ → ℕ → ℕ → ℕ
 xor_right n x y = rotate_right w64 (bit_xor x y) n
 
--- G in four lanes is G on the four columns.
+-- Computing the mixing function G in four lanes at once gives G on each of the four columns.
 pub lanes_mixed : (v x y a d c b a' d' c' b' : List ℕ) → length v ≡ 16 → length x ≡ 4 → length y ≡ 4
     → a ≡ zip2 add64 (zip2 add64 (row v 0) (row v 4)) x → d ≡ zip2 (xor_right 32) (row v 12) a
     → c ≡ zip2 add64 (row v 8) d → b ≡ zip2 (xor_right 24) (row v 4) c
@@ -54,7 +55,7 @@ unfolding mix
 lanes_mixed v x y a d c b a' d' c' b' lv lx ly ea ed ec eb ea' ed' ec' eb' =
     rw (eb', ec', ed', ea', eb, ec, ed, ea, sixteen_of v lv, four_of x lx, four_of y ly) refl
 
--- The two definitions of the number that eight bytes encode agree.
+-- number_l 256 and from_le_bytes give the same number for eight bytes.
 bytes_number : (xs : List ℕ) → length xs ≡ 8 → number_l 256 xs ≡ from_le_bytes w64 xs
 bytes_number xs len = rw (eight_of xs len) (omega arith)
 

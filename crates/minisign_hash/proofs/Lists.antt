@@ -9,6 +9,7 @@ use Rattle.std.proofs.lemmas.List.Concat.{flat_map-append}
 use Rattle.minisign_hash.specs.Words.{bytes_of_words64}
 use Rattle.std.proofs.lemmas.Simd.{pick_l_whole}
 
+-- A list of length eight is the list of its elements at the indices 0 to 7.
 pub eight_of : (xs : List ℕ) → length xs ≡ 8 → xs ≡ slice_index xs 0 ∷ slice_index xs 1 ∷ slice_index xs 2
     ∷ slice_index xs 3
     ∷ slice_index xs 4 ∷ slice_index xs 5 ∷ slice_index xs 6 ∷ slice_index xs 7 ∷ []
@@ -32,14 +33,14 @@ and-right : (a b : Bool) → (a && b) ≡ true → b ≡ true
 and-right true b h = h
 and-right false b h = cc
 
--- If the test whether all numbers of a list are below k is true, each of them is below k.
+-- If `list_all` returns true for the test that a number is below k, each number of the list is below k.
 below_row : (k : ℕ) → 0 < k → (xs : List ℕ) → list_all (λ x. nat_lt x k) xs ≡ true → (j : ℕ)
     → slice_index xs j < k
 below_row k some [] h j = some
 below_row k some (x ∷ xs) h zero = ltb-true x k (and-left _ _ h)
 below_row k some (x ∷ xs) h (suc j) = below_row k some xs (and-right _ _ h) j
 
--- If the test whether all numbers in a list of lists are below k is true, each of them is below k.
+-- The same as `below_row` for a list of lists of numbers.
 pub below_all : (k : ℕ) → 0 < k → (xss : List (List ℕ)) → list_all (list_all (λ x. nat_lt x k)) xss ≡ true
     → (i j : ℕ) → slice_index (slice_index_or xss i []) j < k
 below_all k some [] h i j = some

@@ -20,9 +20,11 @@ use Rattle.minisign_install.proofs.StepEnds.{run_ends}
 use Rattle.minisign_install.proofs.StepReasons.{ends_are_true, errors_are_true}
 use Rattle.minisign_install.specs.Histories.{list_calls}
 
+-- The event that was reported.
 abbrev pub event_of : Call → Event
 event_of c = c.event
 
+-- A run all of whose events have a property is a run of events with this property.
 run_with_property : (w : World) (P : Event → Type 0) (n : ℕ) (s : State) (calls : List Call) (t : State)
     → IsRun (IsLawfulEvent w) n s (map event_of calls) t → AllEvents P calls
     → IsRun (λ n s e. IsLawfulEvent w n s e × P e) n s (map event_of calls) t
@@ -57,14 +59,16 @@ pub application_ends : (w : World) (o : Options) (m : Snapshot) (calls : List Ca
 application_ends w o m calls t end run =
     rw (sym (length_map calls)) (run_ends w o (map event_of calls) t (true_run w o m calls t end run))
 
-last_true : (w : World) (o : Options) (n : ℕ) (s : State) (m : Snapshot) (calls : List Call) (t : State)
+-- The event of a call after a run is lawful.
+last_event_is_lawful : (w : World) (o : Options) (n : ℕ) (s : State) (m : Snapshot) (calls : List Call)
+    (t : State)
     (end : Snapshot) (c : Call) → Invariant w o ⊤ ⊥ n s m → Applies w s m calls t end → Others end c.before
     → is_some (after t.due c.event t) ≡ true → Performs w t t.due c.event c.before c.after
     → IsLawfulEvent w (total n (map event_of calls)) t c.event
-last_true w o n s m [] t end c known (is, same) others fits done =
+last_event_is_lawful w o n s m [] t end c known (is, same) others fits done =
     true_event w o ⊤ ⊥ n t end c (rw (is, same) known) others (λ q. absurd q) fits done
-last_true w o n s m (d ∷ more) t end c known (others, fits, is, run) later fit done =
-    last_true w o (count n d.event) (step s d.event).1 d.after more t end c
+last_event_is_lawful w o n s m (d ∷ more) t end c known (others, fits, is, run) later fit done =
+    last_event_is_lawful w o (count n d.event) (step s d.event).1 d.after more t end c
     (next w o ⊤ ⊥ n s m d known others (λ q. absurd q) fits is (λ found. tt)) run later fit done
 
 -- If a call returns an error, IsReason holds: the event is a failure, the lock is in use, or an input is the
@@ -78,4 +82,5 @@ pub reported_errors_are_true : (w : World) (o : Options) (times : Option ℕ →
 reported_errors_are_true w o times m calls s end c fault run timed now others fits is refuses =
     errors_are_true w o times (map event_of calls) s c.event fault
     (run_with_property w (IsAtTimeIn times) 0 (begin o) calls s (true_run w o m calls s end run) timed)
-    (last_true w o 0 (begin o) m calls s end c (safe_calls.begins w o ⊤ ⊥ m) run others fits is) now refuses
+    (last_event_is_lawful w o 0 (begin o) m calls s end c (safe_calls.begins w o ⊤ ⊥ m) run others fits is)
+    now refuses

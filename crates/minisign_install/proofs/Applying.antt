@@ -15,7 +15,7 @@ use Rattle.minisign_install.specs.Step.{Answered, PieceRead, TargetMissing, Piec
 use Rattle.minisign_install.specs.Step.{answer, begin, has_files, new_record, step}
 use Rattle.minisign_install.specs.Step as fsm
 use Rattle.minisign_install.specs.Step.{data_question}
-use Rattle.minisign_install.specs.StepRuns.{says_yes}
+use Rattle.minisign_install.specs.StepRuns.{accepts_question}
 use Rattle.minisign_install.specs.StepRuns.{IsTrueEvent, World, count}
 use Rattle.minisign_install.proofs.StepSafety.{Passed}
 use Rattle.minisign_lists.specs.declared.digests.ListedDigest.{ListedDigest}
@@ -64,7 +64,7 @@ module _ (w : World) (F Q : Type 0) where
 
   -- The signature is valid for the bytes that were read.
   abbrev pub IsSigned : State → Type 0
-  IsSigned s = (says_yes w (data_question fsm.CheckTarget s) ≡ true) × (fsm.is_listed s ≡ true)
+  IsSigned s = (accepts_question w (data_question fsm.CheckTarget s) ≡ true) × (fsm.is_listed s ≡ true)
 
   -- The invariant of the files, for each operation.
   abbrev pub FilesMatch : ℕ → Operation → State → Snapshot → Type 0
@@ -111,9 +111,9 @@ module _ (w : World) (F Q : Type 0) where
   FilesMatch n op s m = ⊤
 
   -- The invariant still holds after changes by other processes.
-  pub stays : (n : ℕ) (op : Operation) (s : State) (old new : Snapshot) → Others old new
+  pub kept_by_others : (n : ℕ) (op : Operation) (s : State) (old new : Snapshot) → Others old new
       → (Q → LeavesTarget old new) → FilesMatch n op s old → FilesMatch n op s new
-  stays n fsm.SyncRecordName s old new others target (lock_held, whole, recorded) =
+  kept_by_others n fsm.SyncRecordName s old new others target (lock_held, whole, recorded) =
       rw (
         others.data_stays,
         others.lock_stays,
@@ -122,7 +122,7 @@ module _ (w : World) (F Q : Type 0) where
             lock_held.0,
       )
       (lock_held, whole, recorded)
-  stays n fsm.RenameFile s old new others target (lock_held, whole, recorded, left) =
+  kept_by_others n fsm.RenameFile s old new others target (lock_held, whole, recorded, left) =
       rw (
         others.data_stays,
         others.lock_stays,
@@ -130,7 +130,7 @@ module _ (w : World) (F Q : Type 0) where
         others.recorded_stays lock_held.0,
         others.left_stays lock_held.0,
       ) (lock_held, whole, recorded, left)
-  stays n fsm.SyncFileName s old new others target (lock_held, recorded, left, complete) =
+  kept_by_others n fsm.SyncFileName s old new others target (lock_held, recorded, left, complete) =
       rw (
         others.lock_stays,
         others.leftovers_stay lock_held.0,
@@ -138,7 +138,7 @@ module _ (w : World) (F Q : Type 0) where
         others.left_stays lock_held.0,
       )
       (lock_held, recorded, left, λ q. rw (target q).0 (complete q))
-  stays n fsm.Installed s old new others target (lock_held, recorded, left, complete) =
+  kept_by_others n fsm.Installed s old new others target (lock_held, recorded, left, complete) =
       rw (
         others.lock_stays,
         others.leftovers_stay lock_held.0,
@@ -146,45 +146,45 @@ module _ (w : World) (F Q : Type 0) where
         others.left_stays lock_held.0,
       )
       (lock_held, recorded, left, λ q. rw ((target q).0, (target q).1) (complete q))
-  stays n fsm.Lock s old new others target has = has
-  stays n fsm.ReadRecord s old new others target has = rw others.lock_stays has
-  stays n fsm.ReadSignature s old new others target has = rw others.lock_stays has
-  stays n fsm.CheckComment s old new others target has = rw others.lock_stays has
-  stays n fsm.ReadList s old new others target has = rw others.lock_stays has
-  stays n fsm.CheckList s old new others target has = rw others.lock_stays has
-  stays n fsm.CheckRecord s old new others target has = rw others.lock_stays has
-  stays n fsm.ReadTarget s old new others target has = rw others.lock_stays has
-  stays n fsm.CheckTarget s old new others target (has, opened) =
+  kept_by_others n fsm.Lock s old new others target has = has
+  kept_by_others n fsm.ReadRecord s old new others target has = rw others.lock_stays has
+  kept_by_others n fsm.ReadSignature s old new others target has = rw others.lock_stays has
+  kept_by_others n fsm.CheckComment s old new others target has = rw others.lock_stays has
+  kept_by_others n fsm.ReadList s old new others target has = rw others.lock_stays has
+  kept_by_others n fsm.CheckList s old new others target has = rw others.lock_stays has
+  kept_by_others n fsm.CheckRecord s old new others target has = rw others.lock_stays has
+  kept_by_others n fsm.ReadTarget s old new others target has = rw others.lock_stays has
+  kept_by_others n fsm.CheckTarget s old new others target (has, opened) =
       rw (others.lock_stays, others.opened_stays) (has, λ q. rw (target q).0 (opened q))
-  stays n fsm.SyncTarget s old new others target (signed, opened) =
+  kept_by_others n fsm.SyncTarget s old new others target (signed, opened) =
       rw others.opened_stays (signed, λ q. rw (target q).0 (opened q))
-  stays n fsm.SyncTargetName s old new others target (signed, holds) =
+  kept_by_others n fsm.SyncTargetName s old new others target (signed, holds) =
       (signed, λ q. rw (target q).0 (holds q))
-  stays n fsm.AlreadyInstalled s old new others target (signed, inl check) = (signed, inl check)
-  stays n fsm.AlreadyInstalled s old new others target (signed, inr holds) =
+  kept_by_others n fsm.AlreadyInstalled s old new others target (signed, inl check) = (signed, inl check)
+  kept_by_others n fsm.AlreadyInstalled s old new others target (signed, inr holds) =
       (signed, inr (λ q. rw ((target q).0, (target q).1) (holds q)))
-  stays n fsm.RemoveLeftovers s old new others target has = rw others.lock_stays has
-  stays n fsm.CreateFile s old new others target has =
+  kept_by_others n fsm.RemoveLeftovers s old new others target has = rw others.lock_stays has
+  kept_by_others n fsm.CreateFile s old new others target has =
       rw (others.lock_stays, others.leftovers_stay has.1.0) has
-  stays n fsm.CopyData s old new others target has =
+  kept_by_others n fsm.CopyData s old new others target has =
       rw (others.data_stays, others.lock_stays, others.leftovers_stay has.0.0) has
-  stays n fsm.ReadBack s old new others target has =
+  kept_by_others n fsm.ReadBack s old new others target has =
       rw (others.data_stays, others.lock_stays, others.leftovers_stay has.0.0) has
-  stays n fsm.CheckData s old new others target has =
+  kept_by_others n fsm.CheckData s old new others target has =
       rw (others.data_stays, others.lock_stays, others.leftovers_stay has.0.0) has
-  stays n fsm.SetPermissions s old new others target has =
+  kept_by_others n fsm.SetPermissions s old new others target has =
       rw (others.data_stays, others.lock_stays, others.leftovers_stay has.0.0) has
-  stays n fsm.SyncFile s old new others target has =
+  kept_by_others n fsm.SyncFile s old new others target has =
       rw (others.data_stays, others.lock_stays, others.leftovers_stay has.0.0) has
-  stays n fsm.CreateRecord s old new others target has =
+  kept_by_others n fsm.CreateRecord s old new others target has =
       rw (others.data_stays, others.lock_stays, others.leftovers_stay has.0.0) has
-  stays n fsm.WriteRecord s old new others target has =
+  kept_by_others n fsm.WriteRecord s old new others target has =
       rw (others.data_stays, others.record_stays, others.lock_stays, others.leftovers_stay has.0.0) has
-  stays n fsm.SyncRecord s old new others target has =
+  kept_by_others n fsm.SyncRecord s old new others target has =
       rw (others.data_stays, others.record_stays, others.lock_stays, others.leftovers_stay has.0.0) has
-  stays n fsm.RenameRecord s old new others target has =
+  kept_by_others n fsm.RenameRecord s old new others target has =
       rw (others.data_stays, others.record_stays, others.lock_stays, others.leftovers_stay has.0.0) has
-  stays n op s old new others target has = tt
+  kept_by_others n op s old new others target has = tt
 
   -- == Each event is true ==
 
@@ -204,6 +204,7 @@ module _ (w : World) (F Q : Type 0) where
         some,
       )
 
+  -- If the files match the state, the event is true.
   pub is_true : (n : ℕ) (op : Operation) (e : Event) (s : State) (old new : Snapshot) → FilesMatch n op s old
       → Performs w s op e old new → IsTrueEvent w n s op e
   is_true n fsm.ReadRecord (RecordRead found) s old new has is = is.0
@@ -227,73 +228,80 @@ module _ (w : World) (F Q : Type 0) where
 
   -- == What an event leads to ==
 
-  removal : (n : ℕ) (is : Bool) (s : State) (m : Snapshot)
+  -- After an error, the run removes its temporary files, or it has ended.
+  after_rejection : (n : ℕ) (is : Bool) (s : State) (m : Snapshot)
       → FilesMatch n (if is then fsm.RemoveFiles else fsm.Rejected) s m
-  removal n true s m = tt
-  removal n false s m = tt
+  after_rejection n true s m = tt
+  after_rejection n false s m = tt
 
-  abbrev Holds : ℕ → Snapshot → State → Type 0
-  Holds n m s = FilesMatch n s.due s m
+  -- The invariant of a state, for the operation that is due in it.
+  abbrev StateInvariant : ℕ → Snapshot → State → Type 0
+  StateInvariant n m s = FilesMatch n s.due s m
 
-  reject : (n : ℕ) (fault : InstallFault) (s : State) (m : Snapshot) → Holds n m (fsm.reject fault s)
-  reject n fault s m = removal n (has_files s.due) (fsm.reject fault s) m
+  -- The next lemmas have the names of the functions in Step.antt that choose the next state. Each proves the
+  -- invariant after its function.
+  reject : (n : ℕ) (fault : InstallFault) (s : State) (m : Snapshot) → StateInvariant n m (fsm.reject fault s)
+  reject n fault s m = after_rejection n (has_files s.due) (fsm.reject fault s) m
 
-  either : (n : ℕ) (is : Bool) (x y : State) (m : Snapshot) → Holds n m x → Holds n m y
-      → Holds n m (if is then x else y)
-  either n true x y m one other = one
-  either n false x y m one other = other
+  -- The result of a conditional has the property if both branches have it.
+  both_branches : (n : ℕ) (is : Bool) (x y : State) (m : Snapshot) → StateInvariant n m x
+      → StateInvariant n m y
+      → StateInvariant n m (if is then x else y)
+  both_branches n true x y m one other = one
+  both_branches n false x y m one other = other
 
+  -- The operation after `install`, in a check and in an installation.
   to_install : (n : ℕ) (check : Bool) (s : State) (m : Snapshot) → s.options.check ≡ check → IsEarly n s m
       → FilesMatch n (if check then fsm.WouldInstall else fsm.RemoveLeftovers) (fsm.install s) m
   to_install n true s m is has = tt
   to_install n false s m is (none, inl check, found) = absurd (true≢false (sym check ∙ is))
   to_install n false s m is (none, inr locked, found) = (none, (locked, found))
 
-  install : (n : ℕ) (s : State) (m : Snapshot) → IsEarly n s m → Holds n m (fsm.install s)
+  install : (n : ℕ) (s : State) (m : Snapshot) → IsEarly n s m → StateInvariant n m (fsm.install s)
   install n s m has = to_install n s.options.check s m refl has
 
-  compare : (n : ℕ) (s : State) (m : Snapshot) → IsEarly n s m → Holds n m (fsm.compare s)
+  compare : (n : ℕ) (s : State) (m : Snapshot) → IsEarly n s m → StateInvariant n m (fsm.compare s)
   compare n s m has =
-      either n (fsm.is_newer s) _ _ m (install n s m has)
-      (either n (is_some s.recorded.digest) _ _ m has
-      (either n (fsm.is_rolling_back s) _ _ m (install n s m has) has))
+      both_branches n (fsm.is_newer s) _ _ m (install n s m has)
+      (both_branches n (is_some s.recorded.digest) _ _ m has
+      (both_branches n (fsm.is_rolling_back s) _ _ m (install n s m has) has))
 
   after_record : (n : ℕ) (s : State) (r : Result Recorded InstallFault) (m : Snapshot) → IsEarly n s m
-      → Holds n m (fsm.after_record r s)
+      → StateInvariant n m (fsm.after_record r s)
   after_record n s (Ok recorded) m has = has
   after_record n s (Err fault) m has = reject n fault s m
 
   after_signature : (n : ℕ) (s : State) (r : Passed) (time : Option ℕ) (m : Snapshot) → IsEarly n s m
-      → Holds n m (fsm.after_signature r time s)
+      → StateInvariant n m (fsm.after_signature r time s)
   after_signature n s (Ok (t, signers)) time m has = has
   after_signature n s (Err fault) time m has = reject n _ s m
 
   after_comment : (n : ℕ) (s : State) (fault : Option InstallFault) (m : Snapshot) → IsEarly n s m
-      → Holds n m (fsm.after_comment fault (record s { is_signed = true }))
+      → StateInvariant n m (fsm.after_comment fault (record s { is_signed = true }))
   after_comment n s None m has =
-      either n (is_some s.options.list) _ _ m has (compare n (record s { is_signed = true }) m has)
+      both_branches n (is_some s.options.list) _ _ m has (compare n (record s { is_signed = true }) m has)
   after_comment n s (Some fault) m has = reject n fault (record s { is_signed = true }) m
 
   next_key : (n : ℕ) (s : State) (signers : List PublicKeyValue) (m : Snapshot) → s.due ≡ fsm.CheckComment
-      → IsEarly n s m → Holds n m (fsm.next_key signers s)
+      → IsEarly n s m → StateInvariant n m (fsm.next_key signers s)
   next_key n s [] m at has = reject n _ s m
   next_key n s (v ∷ []) m at has = reject n _ s m
   next_key n s (v ∷ u ∷ more) m at has = rw at has
 
   after_listing : (n : ℕ) (s : State) (listed : Result ListedDigest InstallFault) (m : Snapshot)
-      → IsEarly n s m → Holds n m (fsm.after_listing listed s)
+      → IsEarly n s m → StateInvariant n m (fsm.after_listing listed s)
   after_listing n s (Ok digest) m has = compare n s m has
   after_listing n s (Err fault) m has = reject n fault s m
 
   after_data : (n : ℕ) (s : State) (listed : Bool) (m : Snapshot) → FilesMatch n fsm.CheckData s m
-      → Holds n m (fsm.after_data listed s)
+      → StateInvariant n m (fsm.after_data listed s)
   after_data n s true m has = has
   after_data n s false m has = reject n DigestMismatch s m
 
   after_digest : (n : ℕ) (s : State) (accepted : Bool) (m : Snapshot) → IsEarly n s m
-      → Holds n m (fsm.after_digest accepted s)
+      → StateInvariant n m (fsm.after_digest accepted s)
   after_digest n s accepted m has =
-      either n (not accepted && fsm.is_rolling_back s) _ _ m (install n s m has) has
+      both_branches n (not accepted && fsm.is_rolling_back s) _ _ m (install n s m has) has
 
   target_is_update : (n : ℕ) (check : Bool) (s : State) (m : Snapshot) → s.options.check ≡ check → IsSigned s
       → (Q → IsOpened s m) → FilesMatch n (if check then fsm.AlreadyInstalled else fsm.SyncTarget) s m
@@ -301,26 +309,28 @@ module _ (w : World) (F Q : Type 0) where
   target_is_update n false s m is signed opened = (signed, opened)
 
   after_target : (n : ℕ) (s : State) (accepted : Bool) (m : Snapshot) → IsEarly n s m
-      → (accepted ≡ true → IsSigned s) → (Q → IsOpened s m) → Holds n m (fsm.after_target accepted s)
+      → (accepted ≡ true → IsSigned s) → (Q → IsOpened s m) → StateInvariant n m (fsm.after_target accepted s)
   after_target n s true m has is opened =
       target_is_update n s.options.check (fsm.after_target true s) m refl (is refl) opened
   after_target n s false m has is opened =
-      either n (s.is_recorded || s.options.again) _ _ m (install n s m has) (reject n SameNumber s m)
+      both_branches n (s.is_recorded || s.options.again) _ _ m (install n s m has) (reject n SameNumber s m)
 
   after_piece : (n k : ℕ) (s : State) (left : Option ℕ) (m : Snapshot) → s.due ≡ fsm.CopyData
-      → FilesMatch n fsm.CopyData s m → Holds n m (fsm.after_piece k left s)
+      → FilesMatch n fsm.CopyData s m → StateInvariant n m (fsm.after_piece k left s)
   after_piece n k s None m at has = rw at has
-  after_piece n k s (Some left) m at has = either n (nat_le k left) _ _ m (rw at has) (reject n OtherSize s m)
+  after_piece n k s (Some left) m at has =
+      both_branches n (nat_le k left) _ _ m (rw at has) (reject n OtherSize s m)
 
   after_copy : (n : ℕ) (s : State) (left : Option ℕ) (m : Snapshot) → IsClear m
       → HasBytes m.data_file w.update
-      → Holds n m (fsm.after_copy left s)
+      → StateInvariant n m (fsm.after_copy left s)
   after_copy n s None m lock_held has = (lock_held, has)
-  after_copy n s (Some left) m lock_held has = either n (left == 0) _ _ m (lock_held, has)
+  after_copy n s (Some left) m lock_held has = both_branches n (left == 0) _ _ m (lock_held, has)
       (reject n OtherSize s m)
 
-  holds_if_some : (n : ℕ) (is : Bool) (t : State) (m : Snapshot) → Holds n m t
-      → IfSome (if is then Some t else None) (Holds n m)
+  -- Nothing has to be proved if the event does not fit.
+  holds_if_some : (n : ℕ) (is : Bool) (t : State) (m : Snapshot) → StateInvariant n m t
+      → IfSome (if is then Some t else None) (StateInvariant n m)
   holds_if_some n true t m holds = holds
   holds_if_some n false t m holds = tt
 
@@ -342,9 +352,10 @@ module _ (w : World) (F Q : Type 0) where
       rw (opened, present, eq-eqb file.number file.number refl)
       (record file { synced = true }, refl, holds, refl)
 
+  -- An operation keeps the invariant.
   pub op_keeps : (n : ℕ) (op : Operation) (e : Event) (s : State) (old new : Snapshot) → s.due ≡ op
       → (content old.recorded ≡ w.found_record → F) → FilesMatch n op s old → Performs w s op e old new
-      → IfSome (after op e s) (Holds (count n e) new)
+      → IfSome (after op e s) (StateInvariant (count n e) new)
   op_keeps n fsm.Nothing (Failed f) s old new at reads has is = tt
   op_keeps n fsm.Installed (Failed f) s old new at reads has is = tt
   op_keeps n fsm.AlreadyInstalled (Failed f) s old new at reads has is = tt
@@ -441,11 +452,13 @@ module _ (w : World) (F Q : Type 0) where
   op_keeps n op Done s old new at reads has is = absurd is
   op_keeps n op e s old new at reads has is = tt
 
+  -- The invariant holds for the state that `step` returns, if the event fits.
   pub answer_keeps : (n : ℕ) (s : State) (next : Option State) (m : Snapshot) → is_some next ≡ true
-      → IfSome next (Holds n m) → Holds n m (answer s next).1
+      → IfSome next (StateInvariant n m) → StateInvariant n m (answer s next).1
   answer_keeps n s (Some t) m fits holds = holds
   answer_keeps n s None m fits holds = absurd (true≢false (sym fits))
 
+  -- The invariant holds when a run begins.
   pub begins : (check : Bool) (o : Options) (m : Snapshot) → o.check ≡ check
       → FilesMatch 0 (if check then fsm.ReadRecord else fsm.Lock) (begin o) m
   begins true o m is = (refl, inl is)

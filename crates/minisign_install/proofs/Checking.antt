@@ -31,12 +31,13 @@ Reads fsm.WouldInstall s = s.options.check ≡ true
 Reads fsm.Rejected s = s.options.check ≡ true
 Reads op s = ⊥
 
-abbrev Holds : State → Type 0
-Holds s = Reads s.due s
+-- The invariant of a state, for the operation that is due in it.
+abbrev StateInvariant : State → Type 0
+StateInvariant s = Reads s.due s
 
 -- A check that is rejected ends at once, because it has no temporary files.
 reject : (op : Operation) (fault : InstallFault) (s : State) → s.due ≡ op → Reads op s
-    → Holds (fsm.reject fault s)
+    → StateInvariant (fsm.reject fault s)
 reject fsm.ReadRecord fault s at is = rw at is
 reject fsm.ReadSignature fault s at is = rw at is
 reject fsm.CheckComment fault s at is = rw at is
@@ -50,59 +51,68 @@ reject fsm.WouldInstall fault s at is = rw at is
 reject fsm.Rejected fault s at is = rw at is
 reject op fault s at is = absurd is
 
-either : (is : Bool) (x y : State) → Holds x → Holds y → Holds (if is then x else y)
-either true x y one other = one
-either false x y one other = other
+-- The result of a conditional has the property if both branches have it.
+both_branches : (is : Bool) (x y : State) → StateInvariant x → StateInvariant y
+    → StateInvariant (if is then x else y)
+both_branches true x y one other = one
+both_branches false x y one other = other
 
-install : (s : State) → s.options.check ≡ true → Holds (fsm.install s)
+install : (s : State) → s.options.check ≡ true → StateInvariant (fsm.install s)
 install s is = rw is refl
 
-compare : (s : State) → s.options.check ≡ true → Holds (fsm.compare s)
+compare : (s : State) → s.options.check ≡ true → StateInvariant (fsm.compare s)
 compare s is =
-    either (fsm.is_newer s) _ _ (install s is)
-    (either (is_some s.recorded.digest) _ _ is (either (fsm.is_rolling_back s) _ _ (install s is) is))
+    both_branches (fsm.is_newer s) _ _ (install s is)
+    (both_branches (is_some s.recorded.digest) _ _ is
+    (both_branches (fsm.is_rolling_back s) _ _ (install s is) is))
 
 after_record : (s : State) (r : Result Recorded InstallFault) → s.due ≡ fsm.ReadRecord
-    → s.options.check ≡ true → Holds (fsm.after_record r s)
+    → s.options.check ≡ true → StateInvariant (fsm.after_record r s)
 after_record s (Ok recorded) at is = is
 after_record s (Err fault) at is = reject fsm.ReadRecord fault s at is
 
 after_signature : (s : State) (r : Passed) (time : Option ℕ) → s.due ≡ fsm.ReadSignature
-    → s.options.check ≡ true → Holds (fsm.after_signature r time s)
+    → s.options.check ≡ true → StateInvariant (fsm.after_signature r time s)
 after_signature s (Ok (t, signers)) time at is = is
 after_signature s (Err fault) time at is = reject fsm.ReadSignature _ s at is
 
 after_comment : (s : State) (fault : Option InstallFault) → s.due ≡ fsm.CheckComment
-    → s.options.check ≡ true → Holds (fsm.after_comment fault (record s { is_signed = true }))
+    → s.options.check ≡ true → StateInvariant (fsm.after_comment fault (record s { is_signed = true }))
 after_comment s None at is =
-    either (is_some s.options.list) _ _ is (compare (record s { is_signed = true }) is)
+    both_branches (is_some s.options.list) _ _ is (compare (record s { is_signed = true }) is)
 after_comment s (Some fault) at is = reject fsm.CheckComment fault (record s { is_signed = true }) at is
 
 next_key : (s : State) (signers : List PublicKeyValue) → s.due ≡ fsm.CheckComment
-    → s.options.check ≡ true → Holds (fsm.next_key signers s)
+    → s.options.check ≡ true → StateInvariant (fsm.next_key signers s)
 next_key s [] at is = reject fsm.CheckComment _ s at is
 next_key s (v ∷ []) at is = reject fsm.CheckComment _ s at is
 next_key s (v ∷ u ∷ more) at is = rw at is
 
 after_listing : (s : State) (listed : Result ListedDigest InstallFault) → s.due ≡ fsm.CheckList
-    → s.options.check ≡ true → Holds (fsm.after_listing listed s)
+    → s.options.check ≡ true → StateInvariant (fsm.after_listing listed s)
 after_listing s (Ok digest) at is = compare s is
 after_listing s (Err fault) at is = reject fsm.CheckList fault s at is
 
-after_digest : (s : State) (accepted : Bool) → s.options.check ≡ true → Holds (fsm.after_digest accepted s)
-after_digest s accepted is = either (not accepted && fsm.is_rolling_back s) _ _ (install s is) is
+after_digest : (s : State) (accepted : Bool) → s.options.check ≡ true
+    → StateInvariant (fsm.after_digest accepted s)
+after_digest s accepted is = both_branches (not accepted && fsm.is_rolling_back s) _ _ (install s is) is
 
 after_target : (s : State) (accepted : Bool) → s.due ≡ fsm.CheckTarget → s.options.check ≡ true
-    → Holds (fsm.after_target accepted s)
+    → StateInvariant (fsm.after_target accepted s)
 after_target s true at is = rw is refl
 after_target s false at is =
-    either (s.is_recorded || s.options.again) _ _ (install s is) (reject fsm.CheckTarget SameNumber s at is)
+    both_branches (s.is_recorded || s.options.again) _ _ (install s is)
+    (reject fsm.CheckTarget SameNumber s at is)
 
-holds_if_some : (is : Bool) (t : State) → Holds t → IfSome (if is then Some t else None) Holds
+-- Nothing has to be proved if the event does not fit.
+holds_if_some : (is : Bool) (t : State) → StateInvariant t
+    → IfSome (if is then Some t else None) StateInvariant
 holds_if_some true t holds = holds
 holds_if_some false t holds = tt
 
-op_keeps : (op : Operation) (e : Event) (s : State) → s.due ≡ op → Reads op s → IfSome (after op e s) Holds
+-- An operation keeps the invariant.
+op_keeps : (op : Operation) (e : Event) (s : State) → s.due ≡ op → Reads op s
+    → IfSome (after op e s) StateInvariant
 op_keeps fsm.ReadRecord (Failed f) s at is =
     holds_if_some (fsm.is_failure f) _ (reject fsm.ReadRecord _ s at is)
 op_keeps fsm.ReadSignature (Failed f) s at is =
@@ -148,8 +158,9 @@ op_keeps fsm.WouldInstall e s at is = tt
 op_keeps fsm.Rejected e s at is = tt
 op_keeps op e s at is = absurd is
 
-answer_keeps : (s : State) (next : Option State) → is_some next ≡ true → IfSome next Holds
-    → Holds (answer s next).1
+-- The invariant holds for the state that `step` returns, if the event fits.
+answer_keeps : (s : State) (next : Option State) → is_some next ≡ true → IfSome next StateInvariant
+    → StateInvariant (answer s next).1
 answer_keeps s (Some t) fits holds = holds
 answer_keeps s None fits holds = absurd (true≢false (sym fits))
 
@@ -196,7 +207,8 @@ leaves w fsm.WouldInstall e s old new reads is = absurd is
 leaves w fsm.Rejected e s old new reads is = absurd is
 leaves w op e s old new reads is = absurd reads
 
-all_left : (w : World) (s : State) (m : Snapshot) (calls : List Call) (t : State) (end : Snapshot) → Holds s
+all_left : (w : World) (s : State) (m : Snapshot) (calls : List Call) (t : State) (end : Snapshot)
+    → StateInvariant s
     → Applies w s m calls t end → AllCalls LeavesAll calls
 all_left w s m [] t end holds run = tt
 all_left w s m (c ∷ more) t end holds (others, fits, is, run) = (
@@ -205,7 +217,8 @@ all_left w s m (c ∷ more) t end holds (others, fits, is, run) = (
       (answer_keeps s (after s.due c.event s) fits (op_keeps s.due c.event s refl holds)) run,
 )
 
-begins : (o : Options) → o.check ≡ true → Holds (begin o)
+-- The invariant holds when a run begins.
+begins : (o : Options) → o.check ≡ true → StateInvariant (begin o)
 begins o is = rw is refl
 
 -- No operation of a check changes a file or a name, or takes the lock.

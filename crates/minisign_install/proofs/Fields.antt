@@ -8,6 +8,7 @@ use Rattle.std.specs.Str.Pattern.{FindsTextPrefix, StripsPrefix}
 use Rattle.std.proofs.lemmas.Bool.{cases_Bool, eq-eqb, eqb-true, ne_eqb}
 use Rattle.minisign_install.specs.Comments.{expiries, expiry_in, fields, folded, strip, values_of}
 
+-- Removing a label from a text that begins with it leaves the rest.
 pub strips : (label text : List ℕ) → strip label (label ++ text) ≡ Some text
 strips [] text = refl
 strips (b ∷ label) text =
@@ -40,6 +41,7 @@ nothing (b ∷ label) (c ∷ text) some none = absurd (omega arith)
 pub none_read : (reads : List ℕ → Option (List ℕ)) → reads [] ≡ None → filter_map reads (fields []) ≡ []
 none_read reads none = ap (λ r. cons_option r []) none
 
+-- An empty comment has no expiry time.
 pub no_expiry_in : (must : Bool) → expiry_in must [] ≡ None
 no_expiry_in true = refl
 no_expiry_in false = refl
@@ -48,6 +50,7 @@ pub no_expiry : (must : Bool) (text : List ℕ) → length text ≡ 0 → expiri
 no_expiry must [] none = none_read (expiry_in must) (no_expiry_in must)
 no_expiry must (b ∷ text) none = absurd (omega arith)
 
+-- If the flag says that there is a value, there is one; otherwise there is none (none_of).
 pub some_of : {A : Type 0} (o : Option A) → is_some o ≡ true → (v : A) × (o ≡ Some v)
 some_of (Some v) h = (v, refl)
 some_of None h = cc h

@@ -17,7 +17,7 @@ use Rattle.minisign_install.specs.Faults.{Fault, InstallFault, Library, Named, O
 use Rattle.minisign_install.specs.Faults.{TargetInUse}
 use Rattle.minisign_install.specs.Step.{Event, Operation, State, after, answer, step}
 use Rattle.minisign_install.specs.Step as fsm
-use Rattle.minisign_install.specs.StepRuns.{IsAnswer, World, says_yes}
+use Rattle.minisign_install.specs.StepRuns.{IsAnswer, World, accepts_question}
 use Rattle.minisign_install.specs.Installations.{IsTooLong, comment_message, judged_text, signature_read}
 use Rattle.minisign_install.specs.Decisions.{Options}
 use Rattle.minisign.specs.SignatureText.{read_signature}
@@ -29,7 +29,7 @@ use Rattle.minisign_external.specs.declared.state.Misuse.{Misuse}
 use Rattle.minisign_external.specs.declared.state.Refusal.{Refusal}
 use Rattle.minisign_external.specs.declared.state.Refusal.TheVariants.{WrongUse}
 use Rattle.minisign_install.specs.Traces.{IsReadFrom, is_reported}
-use Rattle.minisign_install.specs.Traces.{MessageFits, IsAsked, IsWhole, StateKnows}
+use Rattle.minisign_install.specs.Traces.{MessageFits, HasCommentMessage, HasWholeMessage, HasInputs}
 use Rattle.std.specs.Prelude.{replicate, ◌≢◌}
 use Rattle.std.proofs.Common.{length-append}
 use Rattle.std.proofs.lemmas.Bool.{eqb-true, ne_eqb}
@@ -49,6 +49,7 @@ use Rattle.minisign_lists.specs.declared.digests.ListedDigest.{ListedDigest}
 use Rattle.minisign_install.specs.Faults.{DigestMismatch}
 use Rattle.minisign_install.specs.Step.{signed_digest}
 
+-- Lists that are equal are equal for `bytes_eq`.
 pub equal_bytes : (one other : List ℕ) → one ≡ other → bytes_eq one other ≡ true
 equal_bytes one other is = (bytes_eq-Decides one other).1 is
 
@@ -69,6 +70,7 @@ piece_cut whole front piece (rest, is) =
       ap (drop (length front)) grown ∙ drop-append_seam front piece,
     )
 
+-- A list is not equal to one with another element in front.
 pub is_longer : {A : Type 0} (x : A) (l : List A) → x ∷ l ≡ l → ⊥
 is_longer x l is = omega (arith, ap length is)
 
@@ -88,6 +90,8 @@ read_found (Some found) (Some v) number read file is at holds one =
 read_found (Some found) None number read file is at holds one = absurd (none-some (seen found) (sym is))
 read_found None v number read file is at holds one = absurd (none-some file at)
 
+-- If a view has the number and the bytes of a file, it has its content; there is no view if there is no file
+-- (none_seen).
 pub content_is : (place : Option File) (v : Option FileView)
     → option_map seen place ≡ option_map seen_as v → content place ≡ option_map (λ x. x.bytes.now) v
 content_is (Some file) (Some v) is =
@@ -104,6 +108,7 @@ none_seen None None is at = refl
 
 -- == Operations ==
 
+-- If an operation is done as Performs says, and the effect is one that it has, `is_done` accepts the effect.
 pub done_found : (w : World) (s : State) (op : Operation) (did : Effect) (f : Files) (m : Snapshot)
     (read update : List ℕ) → AreFilesOf f m → read ≡ s.read → w.update ≡ update
     → Performs w s op fsm.Done m (affected did m) → is_effect op did ≡ true
@@ -120,11 +125,14 @@ done_found w s fsm.ReadBack effect.Nothing f m read update present same offered 
     equal_bytes read _ (same ∙ done.0 ∙ bytes_are m.data_file f.data_file present.data_file)
 done_found w s op did f m read update present same offered done is = is
 
+-- An operation other than WriteRecord has an effect that `is_effect` accepts.
 pub done_as : (s : State) (op : Operation) (did : Effect) → (op ≡ fsm.WriteRecord → ⊥) → IsDoneAs s op did
     → is_effect op did ≡ true
 done_as s fsm.WriteRecord did other is = absurd (other refl)
 done_as s op did other is = is
 
+-- The next lemmas, up to piece_due, say what Performs requires for an event: the operation that must be due,
+-- and what is true of the files. Those with `leaves` in their names say that the files are unchanged.
 pub in_use_found : (w : World) (s : State) (op : Operation) (old new : Snapshot)
     → Performs w s op fsm.InUse old new → (op ≡ fsm.Lock) × (old.busy ≡ true)
 in_use_found w s fsm.Lock old new is = (refl, is.0)
@@ -181,6 +189,7 @@ abbrev pub is_text : Event → Bool
 is_text (fsm.SignatureRead text time) = true
 is_text e = false
 
+-- A report that is not that of a signature file is no such event.
 pub other_text : (reported : Report)
     → ((text : Bor (List ℕ)) (time : Option ℕ) → reported ≢ report.Signature text time)
     → is_text (event_of reported) ≡ false
@@ -190,6 +199,7 @@ other_text reported other = refl
 some_bytes : (n : ℕ) → 0 < n → not (n == 0) ≡ true
 some_bytes n some = ap not (ne_eqb n 0 (λ none. omega (arith, some, none)))
 
+-- The function `has_reported` passes on every report that is not that of a signature file.
 pub other_reported : (w : World) (s : State) (reported : Report) (old new : Snapshot)
     → ((text : Bor (List ℕ)) (time : Option ℕ) → reported ≢ report.Signature text time)
     → Performs w s s.due (event_of reported) old new → is_reported reported ≡ true
@@ -200,42 +210,46 @@ other_reported w s reported old new other is = refl
 
 -- == Data that is appended ==
 
-not_grown : {P : Type 0} (s : State) (op : Operation) (piece : Bor (List ℕ))
+-- Neither an operation that reports Done nor a failed one (not_failed_with) appends data.
+not_done_as : {P : Type 0} (s : State) (op : Operation) (piece : Bor (List ℕ))
     → IsDoneAs s op (effect.DataGrown piece) → P
-not_grown s fsm.WriteRecord piece is = absurd is
-not_grown s op piece is = absurd (true≢false (sym is))
+not_done_as s fsm.WriteRecord piece is = absurd is
+not_done_as s op piece is = absurd (true≢false (sym is))
 
-not_failed : {P : Type 0} (op : Operation) (piece : Bor (List ℕ))
+not_failed_with : {P : Type 0} (op : Operation) (piece : Bor (List ℕ))
     → has_failed op (effect.DataGrown piece) ≡ true → P
-not_failed fsm.RenameRecord piece is = absurd (true≢false (sym is))
-not_failed op piece is = absurd (true≢false (sym is))
+not_failed_with fsm.RenameRecord piece is = absurd (true≢false (sym is))
+not_failed_with op piece is = absurd (true≢false (sym is))
 
-no : {P : Type 0} → false ≡ true → P
-no is = absurd (true≢false (sym is))
+contradiction : {P : Type 0} → false ≡ true → P
+contradiction is = absurd (true≢false (sym is))
 
-grows : (g : RunInputs) (s : State) (f : Files) (m : Snapshot) (source : List ℕ) (reported : Report)
+-- If a trace records that data was appended, the data is the next piece of the update.
+piece_is_next : (g : RunInputs) (s : State) (f : Files) (m : Snapshot) (source : List ℕ) (reported : Report)
     (piece : Bor (List ℕ)) (new : Snapshot) → AreFilesOf f m
     → Performs (world_of g) s s.due (event_of reported) m new
     → ReportMatches g s m source reported (effect.DataGrown piece)
     → CanGrow s g.update.now (bytes_seen f.data_file) (effect.DataGrown piece)
-grows g s f m source report.Done piece new present done is = not_grown s s.due piece is
-grows g s f m source (report.Failed fault) piece new present done is = not_failed s.due piece is
-grows g s f m source (report.Signature text time) piece new present done is = no is.0
-grows g s f m source (report.Answered accepted) piece new present done is = no is.0
-grows g s f m source (report.Piece bytes) piece new present done is = no is.0
-grows g s f m source (report.Copied n) piece new present done (some, long, next) = (
+piece_is_next g s f m source report.Done piece new present done is = not_done_as s s.due piece is
+piece_is_next g s f m source (report.Failed fault) piece new present done is = not_failed_with s.due piece is
+piece_is_next g s f m source (report.Signature text time) piece new present done is = contradiction is.0
+piece_is_next g s f m source (report.Answered accepted) piece new present done is = contradiction is.0
+piece_is_next g s f m source (report.Piece bytes) piece new present done is = contradiction is.0
+piece_is_next g s f m source (report.Copied n) piece new present done (some, long, next) = (
   copy_found (world_of g) s s.due n m new done,
   (rw long some, refl, rw (bytes_are m.data_file f.data_file present.data_file) at next),
 )
-grows g s f m source reported piece new present done is = no is
+piece_is_next g s f m source reported piece new present done is = contradiction is
 
+-- The same for any effect: if data was appended, it is the next piece.
 pub can_grow : (g : RunInputs) (s : State) (f : Files) (m : Snapshot) (source : List ℕ) (reported : Report)
     (did : Effect) (new : Snapshot) → AreFilesOf f m → Performs (world_of g) s s.due (event_of reported) m new
     → ReportMatches g s m source reported did → CanGrow s g.update.now (bytes_seen f.data_file) did
 can_grow g s f m source reported (effect.DataGrown piece) new present done is =
-    grows g s f m source reported piece new present done is
+    piece_is_next g s f m source reported piece new present done is
 can_grow g s f m source reported did new present done is = tt
 
+-- If the report is a piece that was read, it is the next one.
 pub read_from : (g : RunInputs) (s : State) (m : Snapshot) (source : List ℕ) (reported : Report)
     (did : Effect)
     → ReportMatches g s m source reported did → IsReadFrom s source reported
@@ -244,156 +258,173 @@ read_from g s m source reported did is = tt
 
 -- == The question about the comment ==
 
+-- The check of the trusted comment is not due at the beginning.
 pub not_at_first : (check : Bool) → (if check then fsm.ReadRecord else fsm.Lock) ≡ fsm.CheckComment → ⊥
 not_at_first true = λ at. cc at
 not_at_first false = λ at. cc at
 
-abbrev Not : Operation → Type 0
-Not op = op ≡ fsm.CheckComment → ⊥
+-- This operation does not check the signature of the trusted comment.
+abbrev IsNotCheckComment : Operation → Type 0
+IsNotCheckComment op = op ≡ fsm.CheckComment → ⊥
 
-rejected : (is : Bool) → Not (if is then fsm.RemoveFiles else fsm.Rejected)
-rejected true = λ at. cc at
-rejected false = λ at. cc at
+-- After an error, the run removes its temporary files, or it has ended.
+after_rejection : (is : Bool) → IsNotCheckComment (if is then fsm.RemoveFiles else fsm.Rejected)
+after_rejection true = λ at. cc at
+after_rejection false = λ at. cc at
 
-reject : (fault : InstallFault) (s : State) → Not (fsm.reject fault s).due
-reject fault s = rejected (fsm.has_files s.due)
+-- The next lemmas have the names of the functions in Step.antt that choose the next state. Each proves that
+-- the operation after its function is not CheckComment.
+reject : (fault : InstallFault) (s : State) → IsNotCheckComment (fsm.reject fault s).due
+reject fault s = after_rejection (fsm.has_files s.due)
 
-begins : (check : Bool) → Not (if check then fsm.WouldInstall else fsm.RemoveLeftovers)
-begins true = λ at. cc at
-begins false = λ at. cc at
+-- The operation after `install`, in a check and in an installation.
+to_install : (check : Bool) → IsNotCheckComment (if check then fsm.WouldInstall else fsm.RemoveLeftovers)
+to_install true = λ at. cc at
+to_install false = λ at. cc at
 
-install : (s : State) → Not (fsm.install s).due
-install s = begins s.options.check
+install : (s : State) → IsNotCheckComment (fsm.install s).due
+install s = to_install s.options.check
 
-either : (is : Bool) (x y : State) → Not x.due → Not y.due → Not (if is then x else y).due
-either true x y one other = one
-either false x y one other = other
+-- The result of a conditional has the property if both branches have it.
+both_branches : (is : Bool) (x y : State) → IsNotCheckComment x.due → IsNotCheckComment y.due
+    → IsNotCheckComment (if is then x else y).due
+both_branches true x y one other = one
+both_branches false x y one other = other
 
-after_record : (r : Result Recorded InstallFault) (s : State) → Not (fsm.after_record r s).due
+after_record : (r : Result Recorded InstallFault) (s : State) → IsNotCheckComment (fsm.after_record r s).due
 after_record (Ok r) s = λ at. cc at
 after_record (Err fault) s = reject fault s
 
-compare : (s : State) → Not (fsm.compare s).due
+compare : (s : State) → IsNotCheckComment (fsm.compare s).due
 compare s =
-    either (fsm.is_newer s) (fsm.install s) _ (install s)
-    (either (is_some s.recorded.digest) (fsm.go fsm.CheckRecord s) _ (λ at. cc at)
-    (either (fsm.is_rolling_back s) (fsm.install s) (fsm.go fsm.ReadTarget s) (install s) (λ at. cc at)))
+    both_branches (fsm.is_newer s) (fsm.install s) _ (install s)
+    (both_branches (is_some s.recorded.digest) (fsm.go fsm.CheckRecord s) _ (λ at. cc at)
+    (both_branches (fsm.is_rolling_back s) (fsm.install s) (fsm.go fsm.ReadTarget s) (install s)
+    (λ at. cc at)))
 
-after_listing : (listed : Result ListedDigest InstallFault) (s : State) → Not (fsm.after_listing listed s).due
+after_listing : (listed : Result ListedDigest InstallFault) (s : State)
+    → IsNotCheckComment (fsm.after_listing listed s).due
 after_listing (Ok digest) s = compare s
 after_listing (Err fault) s = reject fault s
 
-after_data : (listed : Bool) (s : State) → Not (fsm.after_data listed s).due
+after_data : (listed : Bool) (s : State) → IsNotCheckComment (fsm.after_data listed s).due
 after_data true s = λ at. cc at
 after_data false s = reject DigestMismatch s
 
-after_digest : (accepted : Bool) (s : State) → Not (fsm.after_digest accepted s).due
+after_digest : (accepted : Bool) (s : State) → IsNotCheckComment (fsm.after_digest accepted s).due
 after_digest accepted s =
-    either (not accepted && fsm.is_rolling_back s) (fsm.install s)
+    both_branches (not accepted && fsm.is_rolling_back s) (fsm.install s)
     (record s { due = fsm.ReadTarget; is_recorded = accepted }) (install s) (λ at. cc at)
 
-target_is_update : (check : Bool) → Not (if check then fsm.AlreadyInstalled else fsm.SyncTarget)
+target_is_update : (check : Bool) → IsNotCheckComment (if check then fsm.AlreadyInstalled else fsm.SyncTarget)
 target_is_update true = λ at. cc at
 target_is_update false = λ at. cc at
 
-after_target : (accepted : Bool) (s : State) → Not (fsm.after_target accepted s).due
+after_target : (accepted : Bool) (s : State) → IsNotCheckComment (fsm.after_target accepted s).due
 after_target true s = target_is_update s.options.check
 after_target false s =
-    either (s.is_recorded || s.options.again) (fsm.install s) (fsm.reject SameNumber s) (install s)
+    both_branches (s.is_recorded || s.options.again) (fsm.install s) (fsm.reject SameNumber s) (install s)
     (reject SameNumber s)
 
 after_piece : (n : ℕ) (left : Option ℕ) (s : State) → s.due ≡ fsm.CopyData
-    → Not (fsm.after_piece n left s).due
+    → IsNotCheckComment (fsm.after_piece n left s).due
 after_piece n None s at = λ is. cc (at, is)
 after_piece n (Some left) s at =
-    either (nat_le n left) (record s { left = Some (left - n) }) (fsm.reject OtherSize s)
+    both_branches (nat_le n left) (record s { left = Some (left - n) }) (fsm.reject OtherSize s)
     (λ is. cc (at, is)) (reject OtherSize s)
 
-after_copy : (left : Option ℕ) (s : State) → Not (fsm.after_copy left s).due
+after_copy : (left : Option ℕ) (s : State) → IsNotCheckComment (fsm.after_copy left s).due
 after_copy None s = λ at. cc at
 after_copy (Some left) s =
-    either (left == 0) (fsm.go fsm.ReadBack s) (fsm.reject OtherSize s) (λ at. cc at) (reject OtherSize s)
+    both_branches (left == 0) (fsm.go fsm.ReadBack s) (fsm.reject OtherSize s) (λ at. cc at)
+    (reject OtherSize s)
 
-abbrev Stays : Operation → State → Type 0
-Stays op t = t.due ≡ fsm.CheckComment → op ≡ fsm.CheckComment
+-- If the check of the trusted comment is due in this state, it was due before.
+abbrev WasDueBefore : Operation → State → Type 0
+WasDueBefore op t = t.due ≡ fsm.CheckComment → op ≡ fsm.CheckComment
 
-never : (op : Operation) (t : State) → Not t.due → Stays op t
-never op t other = λ is. absurd (other is)
+not_due_after : (op : Operation) (t : State) → IsNotCheckComment t.due → WasDueBefore op t
+not_due_after op t other = λ is. absurd (other is)
 
-holds_if_some : (op : Operation) (is : Bool) (t : State) → Stays op t
-    → IfSome (if is then Some t else None) (Stays op)
+-- Nothing has to be proved if the event does not fit.
+holds_if_some : (op : Operation) (is : Bool) (t : State) → WasDueBefore op t
+    → IfSome (if is then Some t else None) (WasDueBefore op)
 holds_if_some op true t holds = holds
 holds_if_some op false t holds = tt
 
-always : (r : Option State) → IfSome r (Stays fsm.CheckComment)
-always (Some t) = λ is. refl
-always None = tt
+was_due : (r : Option State) → IfSome r (WasDueBefore fsm.CheckComment)
+was_due (Some t) = λ is. refl
+was_due None = tt
 
-stays : (op : Operation) (e : Event) (s : State) → s.due ≡ op → is_text e ≡ false
-    → IfSome (after op e s) (Stays op)
-stays fsm.CheckComment e s at other = always (after fsm.CheckComment e s)
-stays fsm.Nothing (fsm.Failed f) s at other = tt
-stays fsm.Installed (fsm.Failed f) s at other = tt
-stays fsm.AlreadyInstalled (fsm.Failed f) s at other = tt
-stays fsm.WouldInstall (fsm.Failed f) s at other = tt
-stays fsm.Rejected (fsm.Failed f) s at other = tt
-stays fsm.RemoveFiles (fsm.Failed f) s at other =
+-- No event but that of reading the signature file makes this check due.
+was_due_before : (op : Operation) (e : Event) (s : State) → s.due ≡ op → is_text e ≡ false
+    → IfSome (after op e s) (WasDueBefore op)
+was_due_before fsm.CheckComment e s at other = was_due (after fsm.CheckComment e s)
+was_due_before fsm.Nothing (fsm.Failed f) s at other = tt
+was_due_before fsm.Installed (fsm.Failed f) s at other = tt
+was_due_before fsm.AlreadyInstalled (fsm.Failed f) s at other = tt
+was_due_before fsm.WouldInstall (fsm.Failed f) s at other = tt
+was_due_before fsm.Rejected (fsm.Failed f) s at other = tt
+was_due_before fsm.RemoveFiles (fsm.Failed f) s at other =
     holds_if_some fsm.RemoveFiles (fsm.is_failure f) (fsm.go fsm.Rejected s) (λ is. cc is)
-stays op (fsm.Failed f) s at other =
+was_due_before op (fsm.Failed f) s at other =
     holds_if_some op (fsm.is_failure f) (fsm.reject (fsm.failure s.due f) s)
-    (never op (fsm.reject (fsm.failure s.due f) s) (reject (fsm.failure s.due f) s))
-stays fsm.ReadSignature (fsm.SignatureRead text time) s at other = absurd (true≢false other)
-stays fsm.Lock fsm.InUse s at other = λ is. absurd (reject TargetInUse s is)
-stays fsm.ReadRecord (fsm.RecordRead found) s at other =
+    (not_due_after op (fsm.reject (fsm.failure s.due f) s) (reject (fsm.failure s.due f) s))
+was_due_before fsm.ReadSignature (fsm.SignatureRead text time) s at other = absurd (true≢false other)
+was_due_before fsm.Lock fsm.InUse s at other = λ is. absurd (reject TargetInUse s is)
+was_due_before fsm.ReadRecord (fsm.RecordRead found) s at other =
     λ is. absurd (after_record (judge_record s.options found) s is)
-stays fsm.ReadList (fsm.ListRead list name) s at other = λ is. cc is
-stays fsm.CheckList (fsm.Answered true) s at other =
+was_due_before fsm.ReadList (fsm.ListRead list name) s at other = λ is. cc is
+was_due_before fsm.CheckList (fsm.Answered true) s at other =
     λ is. absurd (after_listing s.listing.listed (record s { is_list_signed = true }) is)
-stays fsm.CheckList (fsm.Answered false) s at other =
+was_due_before fsm.CheckList (fsm.Answered false) s at other =
     λ is. absurd (reject (Library (Named named.SignatureRefused)) s is)
-stays fsm.CheckRecord (fsm.Answered accepted) s at other = λ is. absurd (after_digest accepted s is)
-stays fsm.ReadTarget (fsm.PieceRead bytes) s at other = λ is. cc (at, is)
-stays fsm.ReadTarget fsm.TargetMissing s at other = λ is. absurd (install s is)
-stays fsm.CheckTarget (fsm.Answered accepted) s at other =
+was_due_before fsm.CheckRecord (fsm.Answered accepted) s at other = λ is. absurd (after_digest accepted s is)
+was_due_before fsm.ReadTarget (fsm.PieceRead bytes) s at other = λ is. cc (at, is)
+was_due_before fsm.ReadTarget fsm.TargetMissing s at other = λ is. absurd (install s is)
+was_due_before fsm.CheckTarget (fsm.Answered accepted) s at other =
     λ is. absurd (after_target (accepted && fsm.is_listed s) s is)
-stays fsm.CopyData (fsm.PieceCopied n) s at other = λ is. absurd (after_piece n s.left s at is)
-stays fsm.CopyData fsm.Done s at other = λ is. absurd (after_copy s.left s is)
-stays fsm.ReadBack (fsm.PieceRead bytes) s at other = λ is. cc (at, is)
-stays fsm.CheckData (fsm.Answered true) s at other = λ is. absurd (after_data (fsm.is_listed s) s is)
-stays fsm.CheckData (fsm.Answered false) s at other =
+was_due_before fsm.CopyData (fsm.PieceCopied n) s at other = λ is. absurd (after_piece n s.left s at is)
+was_due_before fsm.CopyData fsm.Done s at other = λ is. absurd (after_copy s.left s is)
+was_due_before fsm.ReadBack (fsm.PieceRead bytes) s at other = λ is. cc (at, is)
+was_due_before fsm.CheckData (fsm.Answered true) s at other = λ is. absurd (after_data (fsm.is_listed s) s is)
+was_due_before fsm.CheckData (fsm.Answered false) s at other =
     λ is. absurd (reject (Library (Named named.SignatureRefused)) s is)
-stays fsm.Lock fsm.Done s at other = λ is. cc is
-stays fsm.ReadTarget fsm.Done s at other = λ is. cc is
-stays fsm.SyncTarget fsm.Done s at other = λ is. cc is
-stays fsm.SyncTargetName fsm.Done s at other = λ is. cc is
-stays fsm.RemoveLeftovers fsm.Done s at other = λ is. cc is
-stays fsm.CreateFile fsm.Done s at other = λ is. cc is
-stays fsm.ReadBack fsm.Done s at other = λ is. cc is
-stays fsm.SetPermissions fsm.Done s at other = λ is. cc is
-stays fsm.SyncFile fsm.Done s at other = λ is. cc is
-stays fsm.CreateRecord fsm.Done s at other = λ is. cc is
-stays fsm.WriteRecord fsm.Done s at other = λ is. cc is
-stays fsm.SyncRecord fsm.Done s at other = λ is. cc is
-stays fsm.RenameRecord fsm.Done s at other = λ is. cc is
-stays fsm.SyncRecordName fsm.Done s at other = λ is. cc is
-stays fsm.RenameFile fsm.Done s at other = λ is. cc is
-stays fsm.SyncFileName fsm.Done s at other = λ is. cc is
-stays fsm.RemoveFiles fsm.Done s at other = λ is. cc is
-stays op e s at other = tt
+was_due_before fsm.Lock fsm.Done s at other = λ is. cc is
+was_due_before fsm.ReadTarget fsm.Done s at other = λ is. cc is
+was_due_before fsm.SyncTarget fsm.Done s at other = λ is. cc is
+was_due_before fsm.SyncTargetName fsm.Done s at other = λ is. cc is
+was_due_before fsm.RemoveLeftovers fsm.Done s at other = λ is. cc is
+was_due_before fsm.CreateFile fsm.Done s at other = λ is. cc is
+was_due_before fsm.ReadBack fsm.Done s at other = λ is. cc is
+was_due_before fsm.SetPermissions fsm.Done s at other = λ is. cc is
+was_due_before fsm.SyncFile fsm.Done s at other = λ is. cc is
+was_due_before fsm.CreateRecord fsm.Done s at other = λ is. cc is
+was_due_before fsm.WriteRecord fsm.Done s at other = λ is. cc is
+was_due_before fsm.SyncRecord fsm.Done s at other = λ is. cc is
+was_due_before fsm.RenameRecord fsm.Done s at other = λ is. cc is
+was_due_before fsm.SyncRecordName fsm.Done s at other = λ is. cc is
+was_due_before fsm.RenameFile fsm.Done s at other = λ is. cc is
+was_due_before fsm.SyncFileName fsm.Done s at other = λ is. cc is
+was_due_before fsm.RemoveFiles fsm.Done s at other = λ is. cc is
+was_due_before op e s at other = tt
 
-moved : (s : State) (next : Option State) → is_some next ≡ true → IfSome next (Stays s.due)
+-- The same for the state that `step` returns.
+answer_was_due : (s : State) (next : Option State) → is_some next ≡ true → IfSome next (WasDueBefore s.due)
     → (answer s next).1.due ≡ fsm.CheckComment → s.due ≡ fsm.CheckComment
-moved s (Some t) is holds = holds
-moved s None is holds = absurd (true≢false (sym is))
+answer_was_due s (Some t) is holds = holds
+answer_was_due s None is holds = absurd (true≢false (sym is))
 
 -- If the question about the comment is due after an event, it was due before it, unless the event is that the
 -- signature file was read.
-pub stays_asked : (s : State) (e : Event) → is_some (after s.due e s) ≡ true → is_text e ≡ false
+pub question_was_due : (s : State) (e : Event) → is_some (after s.due e s) ≡ true → is_text e ≡ false
     → (step s e).1.due ≡ fsm.CheckComment → s.due ≡ fsm.CheckComment
-stays_asked s e fits other is = moved s (after s.due e s) fits (stays s.due e s refl other) is
+question_was_due s e fits other is =
+    answer_was_due s (after s.due e s) fits (was_due_before s.due e s refl other) is
 
 -- == Results ==
 
+-- The result of an event that fits is never an API misuse.
 result_proper : (before now : Option InstallFault) (m : Misuse)
     → fsm.result_of before now ≡ Err (WrongUse m) → ⊥
 result_proper None (Some fault) m is = cc is
@@ -405,9 +436,9 @@ event_is_not_misuse s (Some t) r same is m wrong = result_proper s.error t.error
 event_is_not_misuse s None r same is m wrong = true≢false (sym is)
 
 -- The result of an event that fits is not an API misuse.
-pub taken_result : (s : State) (e : Event) (r : Result Unit (Refusal InstallFault)) → r ≡ (step s e).0
+pub result_is_no_misuse : (s : State) (e : Event) (r : Result Unit (Refusal InstallFault)) → r ≡ (step s e).0
     → is_some (after s.due e s) ≡ true → (m : Misuse) → r ≡ Err (WrongUse m) → ⊥
-taken_result s e r same is m wrong = event_is_not_misuse s (after s.due e s) r same is m wrong
+result_is_no_misuse s e r same is m wrong = event_is_not_misuse s (after s.due e s) r same is m wrong
 
 taken_fits : (s : State) (next : Option State) (r : Result Unit (Refusal InstallFault))
     → r ≡ (answer s next).0 → (r ≡ Err (WrongUse NotDue) → ⊥) → is_some next ≡ true
@@ -445,30 +476,32 @@ too_long w o text (Ok (t, keys)) m message is judged room at long =
 too_long w o text (Err e) m message is judged room at long = absurd (none-some m at)
 
 -- If reporting the signature file does not return NotDue, then reading it was due.
-pub text_taken : (w : World) (s : State) (text : List ℕ) (time : Option ℕ)
+pub signature_was_due : (w : World) (s : State) (text : List ℕ) (time : Option ℕ)
     (r : Result Unit (Refusal InstallFault)) → r ≡ (step s (signature_read text time)).0
     → (r ≡ Err (WrongUse NotDue) → ⊥)
     → (s.due ≡ fsm.ReadSignature) × (is_some (after s.due (signature_read text time) s) ≡ true)
-text_taken w s text time r same proper =
+signature_was_due w s text time r same proper =
     let fits = taken_fits s (after s.due (signature_read text time) s) r same proper in
     (text_due s.due _ time s fits, fits)
 
 -- If the run is rejected at the signature file, no message is needed.
-pub text_refused : (w : World) (s : State) (text : List ℕ) (time : Option ℕ) (r : Refusal InstallFault)
+pub rejected_without_message : (w : World) (s : State) (text : List ℕ) (time : Option ℕ)
+    (r : Refusal InstallFault)
     (n : ℕ) (message : List ℕ) → s.due ≡ fsm.ReadSignature
     → (step s (signature_read text time)).0 ≡ Err r
-    → IsWhole w (step s (signature_read text time)).1.due n message
-text_refused w s text time r n message at is =
+    → HasWholeMessage w (step s (signature_read text time)).1.due n message
+rejected_without_message w s text time r n message at is =
     λ asked t parsed. absurd (not_due s.due _ time s r at is asked)
 
 -- The message of a signature file that passes the checks fits into the buffer.
-pub room_enough : (w : World) (s : State) (text : List ℕ) (message : List ℕ)
+pub message_fits : (w : World) (s : State) (text : List ℕ) (message : List ℕ)
     → w.text ≡ read_utf8 read_signature text → MessageFits w message
     → IsTooLong (comment_message (judged_text s text)) (length message) → ⊥
-room_enough w s text message is room (m, at, long) =
+message_fits w s text message is room (m, at, long) =
     too_long w s.options (read_utf8 read_signature text) (judged_text s text) m message (sym is) refl room at
     long
 
+-- Whether the message fits depends only on the length of the buffer.
 pub same_room : (w : World) (one other : List ℕ) → length one ≡ length other → MessageFits w other
     → MessageFits w one
 same_room w one other same room = λ t parsed. rw same (room t parsed)
@@ -517,15 +550,15 @@ key_is (v ∷ more) key is = same_Some v.key key is
 
 answered_at : (w : World) (s : State) (op : Operation) (accepted : Bool) → op ≡ fsm.CheckComment
     → IsAnswer w s op accepted → (t : SignatureTextRecord) → w.text ≡ Ok t
-    → accepted ≡ says_yes w (fsm.comment_question s t.comments.trusted)
+    → accepted ≡ accepts_question w (fsm.comment_question s t.comments.trusted)
 answered_at w s fsm.CheckComment accepted at is = is
 answered_at w s op accepted at is = cc at
 
 -- If the question about the comment is due, its message is in the buffer, and the result of Ed25519 is about
 -- this message.
 pub comment_asked : (w : World) (file : List ℕ) (s : State) (n : ℕ) (message : List ℕ) (q : Question)
-    (accepted : Bool) (old new : Snapshot) → StateKnows w file s → IsWhole w s.due n message
-    → IsAsked w n message
+    (accepted : Bool) (old new : Snapshot) → HasInputs w file s → HasWholeMessage w s.due n message
+    → HasCommentMessage w n message
     → question_due s ≡ Some q → q.is_comment ≡ 1 → Performs w s s.due (fsm.Answered accepted) old new
     → (0 < n) × (n ≤ length message) × (accepted ≡ w.accepts (take n message) q.key q.signature)
 comment_asked w file s n message q accepted old new knows whole asked is one performs =

@@ -32,17 +32,21 @@ use Rattle.minisign_lists.specs.declared.digests.Algorithm.TheVariants as algori
 
 -- == The options for a list ==
 
+-- The flag and the number in the struct are the option for a list in the state.
 pub mode_is : (p : Progress) (s : State) → HoldsState p s
     → s.options.list ≡ list_of p.chosen.is_list p.chosen.long_digest
 mode_is p s held = ap (λ (x : State). x.options.list) held.state
 
+-- `when` returns a value exactly if its condition is true.
 some_when : (b : Bool) (x : LongDigest) → is_some (when b x) ≡ b
 some_when true x = refl
 some_when false x = refl
 
+-- The flag `is_list` of the struct is 1 exactly if the state has a list.
 pub has_list : (p : Progress) (s : State) → HoldsState p s → is_some s.options.list ≡ (p.chosen.is_list == 1)
 has_list p s held = ap is_some (mode_is p s held) ∙ some_when (p.chosen.is_list == 1) _
 
+-- The listing of the state is the one that the struct represents.
 listing_is : (p : Progress) (s : State) → HoldsState p s → s.listing ≡ listing_of p.listing
 listing_is p s held = ap (λ (x : State). x.listing) held.state
 
@@ -82,15 +86,18 @@ with_reading p s r read held fed = record {
 
 -- == The digest that has to be signed ==
 
+-- With a list, the digest that has to be signed is that of the list.
 pub digest_of_list : (p : Progress) (s : State) → HoldsState p s → (p.chosen.is_list == 1) ≡ true
     → p.listing.list_digest ≡ signed_digest s
 digest_of_list p s held is =
     rw (has_list p s held ∙ is) (sym (ap (λ (l : Listing). l.digest) (listing_is p s held)))
 
+-- Without a list, the bytes are hashed with BLAKE2b.
 pub blake2b_read : (p : Progress) (s : State) (held : HoldsState p s) → (p.chosen.is_list == 1) ≡ false
     → WasFed p.reading.blake2b held.read
 blake2b_read p s held is = rw is at held.fed
 
+-- Without a list, the digest that has to be signed is that of the bytes that were read.
 pub digest_of_data : (p : Progress) (s : State) (held : HoldsState p s) (digest : List ℕ)
     → (p.chosen.is_list == 1) ≡ false → digest ≡ blake2b_digest 64 held.read → digest ≡ signed_digest s
 digest_of_data p s held digest is same =
@@ -98,6 +105,7 @@ digest_of_data p s held digest is same =
 
 -- == The listed digest ==
 
+-- A digest that was stored for a hash function is read back for this hash function.
 of_padded : (a : Algorithm) (bytes : List ℕ) → algorithm_of (digest_of_padded a bytes) ≡ a
 of_padded algorithm.Sha256 bytes = refl
 of_padded algorithm.Sha512 bytes = refl
@@ -106,9 +114,11 @@ of_padded algorithm.Blake2b bytes = refl
 abbrev ok : ListedDigest → Result ListedDigest InstallFault
 ok digest = Ok digest
 
+-- Equal results contain equal digests.
 same_ok : (one other : ListedDigest) → ok one ≡ ok other → one ≡ other
 same_ok one other is = cc is
 
+-- If the struct has a listed digest, its hash function is that of the digest.
 algorithm_is : (a : Option Algorithm) (bytes : List ℕ) (fault : ℕ) (digest : ListedDigest)
     → listed_of a bytes fault ≡ Ok digest → a ≡ Some (algorithm_of digest)
 algorithm_is (Some a) bytes fault digest is =
@@ -116,6 +126,7 @@ algorithm_is (Some a) bytes fault digest is =
     (sym (of_padded a bytes) ∙ ap algorithm_of (same_ok (digest_of_padded a bytes) digest is))
 algorithm_is None bytes fault digest is = cc is
 
+-- With a list, the bytes are hashed with the hash function of the listed digest.
 pub read_for : (p : Progress) (s : State) (held : HoldsState p s) (digest : ListedDigest)
     → (p.chosen.is_list == 1) ≡ true → Ok digest ≡ (listing_of p.listing).listed
     → WasRead (Some (algorithm_of digest)) p.reading held.read
@@ -123,10 +134,12 @@ read_for p s held digest is found =
     subst (λ (a : Option Algorithm). WasRead a p.reading held.read)
     (algorithm_is _ p.listing.digest p.listing.fault digest (sym found)) (rw is at held.fed)
 
+-- Without a list, every file is accepted.
 pub unlisted : (p : Progress) (s : State) → HoldsState p s → (p.chosen.is_list == 1) ≡ false
     → true ≡ is_listed s
 unlisted p s held is = rw (mode_is p s held, is) refl
 
+-- With a list, the file is accepted exactly if it has the listed digest.
 pub listed_found : (p : Progress) (s : State) (held : HoldsState p s) (digest : ListedDigest) (b : Bool)
     → (p.chosen.is_list == 1) ≡ true → Ok digest ≡ (listing_of p.listing).listed
     → b ≡ has_digest digest held.read → b ≡ is_listed s
@@ -138,6 +151,7 @@ listed_found p s held digest b is found same =
     let read = read_is p s held in
     same ∙ sym (λ i. fits_listed (mode i) (listed i) (read i))
 
+-- With a list, no file is accepted if looking up the name failed.
 pub listed_missing : (p : Progress) (s : State) (held : HoldsState p s) (fault : InstallFault)
     → (p.chosen.is_list == 1) ≡ true → Err fault ≡ (listing_of p.listing).listed → false ≡ is_listed s
 listed_missing p s held fault is missing =
@@ -147,11 +161,13 @@ listed_missing p s held fault is missing =
     let listed = ap (λ (l : Listing). l.listed) (listing_is p s held) ∙ sym missing in
     sym (λ i. fits_listed (mode i) (listed i) s.read)
 
+-- The result of looking up the name is the same in the struct and in the state.
 pub listed_at : (p : Progress) (s : State) → HoldsState p s → s.listing.listed ≡ (listing_of p.listing).listed
 listed_at p s held = ap (λ (l : Listing). l.listed) (listing_is p s held)
 
--- == The line at fault ==
+-- == After the signature of the list was checked ==
 
+-- The new struct represents the state in which the list is signed.
 pub list_signed : (p : Progress) (s : State) → HoldsState p s
     → HoldsState (record p { is_list_signed = 1 }) (record s { is_list_signed = true })
 list_signed p s held = record {
@@ -165,6 +181,7 @@ list_signed p s held = record {
   fed = held.fed;
 }
 
+-- The number of the line that caused the error of the lookup is the same in the struct and in the state.
 pub line_is : (p : Progress) (s : State) → HoldsState p s
     → (if p.is_list_signed == 1 then p.listing.line else 0) ≡ line_at_fault s
 line_is p s held =
@@ -184,17 +201,21 @@ no_algorithm false n is = refl
 
 -- == Texts ==
 
+-- If the list and the name are UTF-8, the name is looked up in the list.
 pub looked_up : (h : LongDigest) (list name t n : List ℕ) → t ≡ list → n ≡ name → is_utf8 list ≡ true
     → is_utf8 name ≡ true → listed_entry h t n ≡ entry_in h list name
 looked_up h list name t n one other utf8 also = rw (one, other, utf8, also) refl
 
+-- The result of looking up a name if the list or the name is not UTF-8.
 abbrev missing : Result Entry ListFault
 missing = Err (lists.Library (Named NotUtf8))
 
+-- If the name is not UTF-8, looking it up has the error NotUtf8.
 pub no_name_text : (h : LongDigest) (list name : List ℕ) → is_utf8 list ≡ true → is_utf8 name ≡ false
     → entry_in h list name ≡ missing
 no_name_text h list name utf8 not = rw (utf8, not) refl
 
+-- If the list is not UTF-8, looking up a name has the error NotUtf8.
 pub no_list_text : (h : LongDigest) (list name : List ℕ) → is_utf8 list ≡ false
     → entry_in h list name ≡ missing
 no_list_text h list name not = rw not refl

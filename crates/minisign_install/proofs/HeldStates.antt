@@ -30,7 +30,7 @@ use Rattle.minisign_install.specs.Installations.{begun_mark, error_number, is_co
 use Rattle.minisign_install.specs.Installations.{is_locking, is_over, is_reading, is_reading_target}
 use Rattle.minisign_install.specs.Installations.{is_reading_record, is_removing, operation_of, options_of}
 use Rattle.minisign_install.specs.Installations.{first_key, is_writing_record, numbering_of, record_due}
-use Rattle.minisign_install.specs.Installations.{recorded_of, state_of, when, written_if}
+use Rattle.minisign_install.specs.Installations.{recorded_of, state_of, when, IsWrittenIf}
 use Rattle.minisign_install.specs.Step.{Answered, Event, step, Done, InUse, Failed, PieceCopied, PieceRead}
 use Rattle.minisign_install.specs.Step.{RecordRead, TargetMissing, after_record}
 use Rattle.minisign_install.specs.Step.{Operation, State, after, after_copy, after_piece, failure, go}
@@ -50,6 +50,8 @@ use Rattle.minisign_install.specs.Step.{signed_digest}
 
 -- == The struct ==
 
+-- The next lemmas say that a part of the struct agrees with the same part of the state that the struct
+-- represents, or that both still agree after the same change.
 pub due_is : (p : Progress) (s : State) → HoldsState p s → s.due ≡ operation_of p.due
 due_is p s state_held = ap (λ (x : State). x.due) state_held.state
 
@@ -80,6 +82,7 @@ library_positive : (e : Fault) → 0 < fault_number e
 library_positive (Named f) = named_positive f
 library_positive (Custom kind text) = lit< tt
 
+-- No error of an installation has the number 0, which stands for no error.
 positive : (e : InstallFault) → 0 < install_number e
 positive (Library f) = library_positive f
 positive TargetInUse = lit< tt
@@ -97,22 +100,26 @@ pub later_error : (e : Option InstallFault) (fault : InstallFault) → error_num
 later_error None fault some = absurd (some refl)
 later_error (Some f) fault some = refl
 
-pub calm : (e : Option InstallFault) → Ok tt ≡ result_of e e
-calm None = refl
-calm (Some f) = refl
+-- If the error stays the same, the result of the step is Ok.
+pub ok_for_same_error : (e : Option InstallFault) → Ok tt ≡ result_of e e
+ok_for_same_error None = refl
+ok_for_same_error (Some f) = refl
 
-pub rejected : (p q : Progress) (s : State) (fault : InstallFault) (op : Operation) → HoldsState p s
+-- If the struct represents the state with the operation and the error that `reject` sets, it represents the
+-- state after `reject`.
+pub rejected_state : (p q : Progress) (s : State) (fault : InstallFault) (op : Operation) → HoldsState p s
     → op ≡ (if has_files (operation_of p.due) then fsm.RemoveFiles else fsm.Rejected)
     → HoldsState q (go op (record s { error = Some fault })) → HoldsState q (reject fault s)
-rejected p q s fault op state_held is after_it =
+rejected_state p q s fault op state_held is after_it =
     subst (λ (d : Operation). HoldsState q (record s { due = d; error = Some fault }))
     (is ∙ ap (λ (d : Operation). if has_files d then fsm.RemoveFiles else fsm.Rejected)
     (sym (due_is p s state_held))) after_it
 
 -- If a step does not change the error, its result is Ok.
-pub quiet : (s t : State) → t.error ≡ s.error → Ok tt ≡ result_of s.error t.error
-quiet s t is = calm s.error ∙ ap (result_of s.error) (sym is)
+pub ok_if_error_unchanged : (s t : State) → t.error ≡ s.error → Ok tt ≡ result_of s.error t.error
+ok_if_error_unchanged s t is = ok_for_same_error s.error ∙ ap (result_of s.error) (sym is)
 
+-- A conditional sets no error if neither branch does.
 pick_error : (b : Bool) (x y : State) (e : Option InstallFault) → x.error ≡ e → y.error ≡ e
     → (if b then x else y).error ≡ e
 pick_error true x y e one other = one
@@ -132,9 +139,10 @@ digest_error a s = pick_error (not a && is_rolling_back s) _ _ s.error refl refl
 
 -- == The record ==
 
-pub recorded_as : (p : Progress) (s : State) (n : ℕ) (b : Bool) → (n == 1) ≡ b → HoldsState p s
+-- The new struct represents the state after the result of Ed25519 for the recorded digest was stored.
+pub with_is_recorded : (p : Progress) (s : State) (n : ℕ) (b : Bool) → (n == 1) ≡ b → HoldsState p s
     → HoldsState (record p { is_recorded = n }) (record s { is_recorded = b })
-recorded_as p s n b is state_held = record {
+with_is_recorded p s n b is state_held = record {
   file = state_held.file;
   read = state_held.read;
   fault = state_held.fault;
@@ -148,22 +156,24 @@ recorded_as p s n b is state_held = record {
   fed = state_held.fed;
 }
 
-pub digest_yes : (q : Progress) (s : State) (a : Bool) → a ≡ true
+-- The step after Ed25519 has accepted, or below rejected, the signature for the recorded digest.
+pub accepted_digest : (q : Progress) (s : State) (a : Bool) → a ≡ true
     → HoldsState q (go fsm.ReadTarget (record s { is_recorded = true })) → HoldsState q (after_digest a s)
-digest_yes q s a is state_held = subst (λ (b : Bool). HoldsState q (after_digest b s)) (sym is) state_held
+accepted_digest q s a is state_held =
+    subst (λ (b : Bool). HoldsState q (after_digest b s)) (sym is) state_held
 
-pub digest_no : (q : Progress) (s : State) (a : Bool) → a ≡ false → is_rolling_back s ≡ false
+pub refused_digest : (q : Progress) (s : State) (a : Bool) → a ≡ false → is_rolling_back s ≡ false
     → HoldsState q (go fsm.ReadTarget (record s { is_recorded = false })) → HoldsState q (after_digest a s)
-digest_no q s a is old state_held =
+refused_digest q s a is old state_held =
     subst (λ (b : Bool). HoldsState q (after_digest b s)) (sym is)
     (subst (λ (b : Bool).
     HoldsState q (if b then install s else record s { due = fsm.ReadTarget; is_recorded = false }))
     (sym old) state_held)
 
 -- The new struct represents the state after the record was read.
-pub recorded_with : (p : Progress) (s : State) (r : RecordedValue) → HoldsState p s
+pub with_recorded : (p : Progress) (s : State) (r : RecordedValue) → HoldsState p s
     → HoldsState (record p { recorded = r }) (record s { recorded = recorded_of r })
-recorded_with p s r state_held = record {
+with_recorded p s r state_held = record {
   file = state_held.file;
   read = state_held.read;
   fault = state_held.fault;
@@ -178,6 +188,8 @@ pub options_are : (p : Progress) (s : State) (state_held : HoldsState p s)
     → s.options ≡ options_of p.chosen state_held.file
 options_are p s state_held = ap (λ (x : State). x.options) state_held.state
 
+-- At ReadRecord, the event that the record was read leads to this state. At another operation, it does not
+-- fit (no_record_at). The lemmas below that end in _at come in the same pairs, one for each event.
 pub record_at : (op : Operation) (found : Option (List ℕ)) (s : State) (r : Result Recorded InstallFault)
     → is_reading_record op ≡ true → judge_record s.options found ≡ r
     → after op (RecordRead found) s ≡ Some (after_record r s)
@@ -191,29 +203,33 @@ no_record_at _ found s is = refl
 
 -- == The question ==
 
-pub nothing_asked : (is_read : Bool) (key : Option (List ℕ)) (s : State) → s.due ≡ fsm.Nothing
+-- No question is due in a state in which no operation is due, before the signature file was read, or if no
+-- key may have signed.
+pub no_question_if_nothing_due : (is_read : Bool) (key : Option (List ℕ)) (s : State) → s.due ≡ fsm.Nothing
     → None ≡ question_by is_read key s.due s
-nothing_asked true (Some key) s at = sym (ap (λ (op : Operation). question_of op key s) at)
-nothing_asked true None s at = refl
-nothing_asked false key s at = refl
+no_question_if_nothing_due true (Some key) s at = sym (ap (λ (op : Operation). question_of op key s) at)
+no_question_if_nothing_due true None s at = refl
+no_question_if_nothing_due false key s at = refl
 
-pub unread : (s : State) → (length s.signature == 64) ≡ false → None ≡ question_due s
-unread s is = rw is refl
+pub no_question_before_reading : (s : State) → (length s.signature == 64) ≡ false → None ≡ question_due s
+no_question_before_reading s is = rw is refl
 
-pub no_key : (s : State) → (length s.signature == 64) ≡ true → None ≡ first_key s.signers
+pub no_question_without_key : (s : State) → (length s.signature == 64) ≡ true → None ≡ first_key s.signers
     → None ≡ question_due s
-no_key s is none =
+no_question_without_key s is none =
     ap (λ (key : Option (List ℕ)). question_by true key s.due s) none
     ∙ ap (λ (b : Bool). question_by b (first_key s.signers) s.due s) (sym is)
 
-pub asked : (s : State) (key : List ℕ) (q : Option Question) → (length s.signature == 64) ≡ true
+-- Otherwise the question under the first key is due, if the operation has one.
+pub question_is_due : (s : State) (key : List ℕ) (q : Option Question) → (length s.signature == 64) ≡ true
     → Some key ≡ first_key s.signers → q ≡ question_of s.due key s → q ≡ question_due s
-asked s key q is first same =
+question_is_due s key q is first same =
     same ∙ ap (λ (k : Option (List ℕ)). question_by true k s.due s) first
     ∙ ap (λ (b : Bool). question_by b (first_key s.signers) s.due s) (sym is)
 
 -- == The new record ==
 
+-- The first of the keys that may have signed.
 pub key_is : (signers : List PublicKeyValue) (key : List ℕ) → first_key signers ≡ Some key
     → key_of signers ≡ key
 key_is [] key is = absurd (none-some key is)
@@ -223,23 +239,26 @@ below_when : (b : Bool) (v r : ℕ) → is_below (Some v) (when b r) ≡ true �
 below_when true v r is = refl
 below_when false v r is = absurd (true≢false (sym is))
 
-pub version_back : (p : Progress) (s : State) → HoldsState p s → is_rolling_back s ≡ true
+-- A roll-back records the old version and key again; another installation records its own. These are the
+-- fields of the struct.
+pub version_in_roll_back : (p : Progress) (s : State) → HoldsState p s → is_rolling_back s ≡ true
     → new_version s ≡ p.recorded.version
-version_back p s state_held is =
+version_in_roll_back p s state_held is =
     rw is (rw state_held.state (below_when (p.recorded.has_version == 1) p.judged.version p.recorded.version
     (rw state_held.state at is)))
 
-pub version_on : (p : Progress) (s : State) → HoldsState p s → is_rolling_back s ≡ false
+pub version_otherwise : (p : Progress) (s : State) → HoldsState p s → is_rolling_back s ≡ false
     → new_version s ≡ p.judged.version
-version_on p s state_held is = rw is (ap (λ (x : State). x.version) state_held.state)
+version_otherwise p s state_held is = rw is (ap (λ (x : State). x.version) state_held.state)
 
-pub key_back : (s : State) (signer key : List ℕ) → key_of s.signers ≡ signer → is_rolling_back s ≡ true
+pub key_in_roll_back : (s : State) (signer key : List ℕ) → key_of s.signers ≡ signer
+    → is_rolling_back s ≡ true
     → key ≡ unwrap_or s.recorded.key signer → key ≡ new_key s
-key_back s signer key first is named = rw (is, first) named
+key_in_roll_back s signer key first is named = rw (is, first) named
 
-pub key_on : (s : State) (signer : List ℕ) → key_of s.signers ≡ signer → is_rolling_back s ≡ false
+pub key_otherwise : (s : State) (signer : List ℕ) → key_of s.signers ≡ signer → is_rolling_back s ≡ false
     → signer ≡ new_key s
-key_on s signer first is = rw is (sym first)
+key_otherwise s signer first is = rw is (sym first)
 
 pub numbering_is : (p : Progress) (s : State) → HoldsState p s
     → s.options.numbering ≡ numbering_of p.chosen.numbering
@@ -248,50 +267,55 @@ numbering_is p s state_held = ap (λ (x : State). x.options.numbering) state_hel
 pub read_is : (p : Progress) (s : State) (state_held : HoldsState p s) → s.read ≡ state_held.read
 read_is p s state_held = ap (λ (x : State). x.read) state_held.state
 
+-- Nothing is written at an operation other than WriteRecord.
 pub not_writing : (s : State) (op : Operation) (n : ℕ) (old new : List ℕ) → s.due ≡ op
-    → is_writing_record op ≡ false → n ≡ 0 → new ≡ old → written_if (record_due s) n old new
+    → is_writing_record op ≡ false → n ≡ 0 → new ≡ old → IsWrittenIf (record_due s) n old new
 not_writing s op n old new at is none same =
     subst (λ (b : Bool).
-    written_if (if b then option_map (λ key. new_record s) (first_key s.signers) else None) n old new)
+    IsWrittenIf (if b then option_map (λ key. new_record s) (first_key s.signers) else None) n old new)
     (sym (ap is_writing_record at ∙ is)) (none, same)
 
+-- At WriteRecord, the new record is written, if there is a key.
 pub writing : (s : State) (op : Operation) (key : Option (List ℕ)) (n : ℕ) (old new : List ℕ) → s.due ≡ op
     → is_writing_record op ≡ true → first_key s.signers ≡ key
-    → written_if (option_map (λ key. new_record s) key) n old new
-    → written_if (record_due s) n old new
-writing s op key n old new at is first written =
+    → IsWrittenIf (option_map (λ key. new_record s) key) n old new
+    → IsWrittenIf (record_due s) n old new
+writing s op key n old new at is first written_text =
     subst (λ (b : Bool).
-    written_if (if b then option_map (λ key. new_record s) (first_key s.signers) else None) n old new)
+    IsWrittenIf (if b then option_map (λ key. new_record s) (first_key s.signers) else None) n old new)
     (sym (ap is_writing_record at ∙ is))
-    (subst (λ (k : Option (List ℕ)). written_if (option_map (λ key. new_record s) k) n old new)
-    (sym first) written)
+    (subst (λ (k : Option (List ℕ)). IsWrittenIf (option_map (λ key. new_record s) k) n old new)
+    (sym first) written_text)
 
 pub record_same : {a b : Numbering} {n m : ℕ} {key other digest also : List ℕ} → a ≡ b → n ≡ m → key ≡ other
     → digest ≡ also → record_of a n key digest ≡ record_of b m other also
 record_same numbering version key digest = λ i. record_of (numbering i) (version i) (key i) (digest i)
 
-pub written : (text same : List ℕ) (n : ℕ) (old new : List ℕ) → text ≡ same
+pub is_written : (text same : List ℕ) (n : ℕ) (old new : List ℕ) → text ≡ same
     → (0 < n → (n ≤ length new) × (take n new ≡ text)) → drop n new ≡ drop n old
     → (n ≡ 0 → (new ≡ old) × (length old < length text)) → IsWritten same n old new
-written text same n old new is some rest none =
+is_written text same n old new is some rest none =
     subst (λ (t : List ℕ). IsWritten t n old new) is (record {
       front = some;
       rest_unchanged = rest;
       room = none;
     })
 
+-- The bytes that are written are the record that IsNewRecord describes.
 pub new_record_is : (s : State) (numbering : Numbering) (n : ℕ) (key digest : List ℕ) {bytes : List ℕ}
     → s.options.numbering ≡ numbering → new_version s ≡ n → new_key s ≡ key → signed_digest s ≡ digest
     → n < 2 ^ 64 → length key ≡ 32 → IsBytes key → length digest ≡ 64 → IsBytes digest
     → bytes ≡ record_of numbering n key digest → IsNewRecord s bytes
-new_record_is s numbering n key digest numbered version named fits bound whole are long digits is =
-    rw (is, numbered, version, named, fits) (reads_back numbering n bound key digest whole long are digits)
+new_record_is s numbering n key digest numbered version named same_digest bound whole are long digits is =
+    rw (is, numbered, version, named, same_digest)
+    (reads_back numbering n bound key digest whole long are digits)
 
 -- == The comment ==
 
-pub signed : (p : Progress) (s : State) → HoldsState p s
+-- The new struct represents the state in which the comment is signed.
+pub with_signed_comment : (p : Progress) (s : State) → HoldsState p s
     → HoldsState (record p { is_signed = 1 }) (record s { is_signed = true })
-signed p s state_held = record {
+with_signed_comment p s state_held = record {
   file = state_held.file;
   read = state_held.read;
   fault = state_held.fault;
@@ -302,6 +326,7 @@ signed p s state_held = record {
   fed = state_held.fed;
 }
 
+-- The error for the comment that the struct returns is that of the state.
 pub fault_found : (f : Option InstallFault) (n : ℕ) (r : Option InstallFault) → IsOwnNumber n f
     → ((e : InstallFault) → is_installer_fault e ≡ true → n ≡ install_number e → r ≡ Some e)
     → IfSome r (λ e. (is_installer_fault e ≡ true) × (n ≡ install_number e)) → r ≡ f
@@ -311,52 +336,60 @@ fault_found (Some f) n r (is, own) found holds = found f own is
 
 -- == Steps ==
 
+-- The struct represents the state after the step, and the result is that of the step, if this is the state
+-- after the event, or None if the event does not fit.
 abbrev StepsTo : Event → State → Result Unit (Refusal InstallFault) → Progress → Option State → Type 0
 StepsTo e s r q o = HoldsState q (answer s o).1 × (r ≡ (answer s o).0)
 
-pub fits : (s t : State) (e : Event) (p q : Progress) (r : Result Unit (Refusal InstallFault))
+-- If the event fits, a struct that represents the next state represents the state after the step.
+pub event_fits : (s t : State) (e : Event) (p q : Progress) (r : Result Unit (Refusal InstallFault))
     → HoldsState p s → after (operation_of p.due) e s ≡ Some t → RunLeadsTo s t r q → Steps e s r q
-fits s t e p q r state_held is leads =
+event_fits s t e p q r state_held is leads =
     subst (StepsTo e s r q) (sym (ap (λ (op : Operation). after op e s) (due_is p s state_held) ∙ is)) leads
 
-pub misfits : (s : State) (e : Event) (p : Progress) (r : Result Unit (Refusal InstallFault)) → HoldsState p s
+-- If the event does not fit, the unchanged struct represents the state after the step, and the result is
+-- NotDue.
+pub event_is_not_due : (s : State) (e : Event) (p : Progress) (r : Result Unit (Refusal InstallFault))
+    → HoldsState p s
     → after (operation_of p.due) e s ≡ None → r ≡ Err (WrongUse NotDue) → Steps e s r p
-misfits s e p r state_held is wrong =
+event_is_not_due s e p r state_held is wrong =
     subst (StepsTo e s r p) (sym (ap (λ (op : Operation). after op e s) (due_is p s state_held)
     ∙ is)) (state_held, wrong)
 
-pub comment_yes : (op : Operation) (a : Bool) (s : State) → op ≡ fsm.CheckComment → a ≡ true
+-- The next lemmas give the state after Ed25519 has accepted or rejected a signature, at each operation that
+-- verifies one.
+pub accepted_comment : (op : Operation) (a : Bool) (s : State) → op ≡ fsm.CheckComment → a ≡ true
     → after op (Answered a) s ≡ Some (after_comment s.fault (record s { is_signed = true }))
-comment_yes op a s at is = rw (at, is) refl
+accepted_comment op a s at is = rw (at, is) refl
 
-pub comment_no : (op : Operation) (a : Bool) (s : State) → op ≡ fsm.CheckComment → a ≡ false
+pub refused_comment : (op : Operation) (a : Bool) (s : State) → op ≡ fsm.CheckComment → a ≡ false
     → after op (Answered a) s ≡ Some (next_key s.signers s)
-comment_no op a s at is = rw (at, is) refl
+refused_comment op a s at is = rw (at, is) refl
 
-pub record_either : (op : Operation) (a : Bool) (s : State) → op ≡ fsm.CheckRecord
+pub answered_record : (op : Operation) (a : Bool) (s : State) → op ≡ fsm.CheckRecord
     → after op (Answered a) s ≡ Some (after_digest a s)
-record_either op a s at = rw at refl
+answered_record op a s at = rw at refl
 
-pub list_yes : (op : Operation) (a : Bool) (s : State) → op ≡ fsm.CheckList → a ≡ true
+pub accepted_list : (op : Operation) (a : Bool) (s : State) → op ≡ fsm.CheckList → a ≡ true
     → after op (Answered a) s
     ≡ Some (after_listing s.listing.listed (record s { is_list_signed = true }))
-list_yes op a s at is = rw (at, is) refl
+accepted_list op a s at is = rw (at, is) refl
 
-pub list_no : (op : Operation) (a : Bool) (s : State) → op ≡ fsm.CheckList → a ≡ false
+pub refused_list : (op : Operation) (a : Bool) (s : State) → op ≡ fsm.CheckList → a ≡ false
     → after op (Answered a) s ≡ Some (reject (Library (Named SignatureRefused)) s)
-list_no op a s at is = rw (at, is) refl
+refused_list op a s at is = rw (at, is) refl
 
-pub target_either : (op : Operation) (a b : Bool) (s : State) → op ≡ fsm.CheckTarget
+pub answered_target : (op : Operation) (a b : Bool) (s : State) → op ≡ fsm.CheckTarget
     → (a && is_listed s) ≡ b → after op (Answered a) s ≡ Some (after_target b s)
-target_either op a b s at is = rw (at, is) refl
+answered_target op a b s at is = rw (at, is) refl
 
-pub data_yes : (op : Operation) (a : Bool) (s : State) → op ≡ fsm.CheckData → a ≡ true
+pub accepted_data : (op : Operation) (a : Bool) (s : State) → op ≡ fsm.CheckData → a ≡ true
     → after op (Answered a) s ≡ Some (after_data (is_listed s) s)
-data_yes op a s at is = rw (at, is) refl
+accepted_data op a s at is = rw (at, is) refl
 
-pub data_no : (op : Operation) (a : Bool) (s : State) → op ≡ fsm.CheckData → a ≡ false
+pub refused_data : (op : Operation) (a : Bool) (s : State) → op ≡ fsm.CheckData → a ≡ false
     → after op (Answered a) s ≡ Some (reject (Library (Named SignatureRefused)) s)
-data_no op a s at is = rw (at, is) refl
+refused_data op a s at is = rw (at, is) refl
 
 -- At an operation without a question for Ed25519, a result of Ed25519 does not fit.
 pub no_answer_at : (op : Operation) (a : Bool) (s : State) → op ≢ fsm.CheckComment → op ≢ fsm.CheckList
@@ -370,14 +403,18 @@ no_answer_at _ a s comment list recorded target data_is = refl
 
 -- == An installation ==
 
-pub stored : (i : Installation) (s : State) → (i.mark == begun_mark) ≡ true → Represents i s
+-- The struct of an installation that was begun represents the state. One that was never begun (unbegun_holds)
+-- represents a state in which nothing happened.
+pub begun_holds : (i : Installation) (s : State) → (i.mark == begun_mark) ≡ true → Represents i s
     → HoldsState i.progress s
-stored i s is held = subst (λ (b : Bool). RepresentsIf b i.progress s) is held
+begun_holds i s is held = subst (λ (b : Bool). RepresentsIf b i.progress s) is held
 
-pub unbegun : (i : Installation) (s : State) → (i.mark == begun_mark) ≡ false → Represents i s
+pub unbegun_holds : (i : Installation) (s : State) → (i.mark == begun_mark) ≡ false → Represents i s
     → (s.due ≡ fsm.Nothing) × (s.is_signed ≡ false) × (s.error ≡ None) × (s.is_list_signed ≡ false)
-unbegun i s is held = subst (λ (b : Bool). RepresentsIf b i.progress s) is held
+unbegun_holds i s is held = subst (λ (b : Bool). RepresentsIf b i.progress s) is held
 
+-- If the Progress after a call represents the state after the step, so does the Installation that contains
+-- it.
 pub begun_steps : (i : Installation) (p : Progress) (s : State) (e : Event)
     (r : Result Unit (Refusal InstallFault)) → (i.mark == begun_mark) ≡ true → Steps e s r p
     → Represents (record i { progress = p }) (step s e).1 × (r ≡ (step s e).0)
@@ -389,14 +426,16 @@ nothing_accepts_no_event Done s = refl
 nothing_accepts_no_event (Failed f) s = refl
 nothing_accepts_no_event _ s = refl
 
+-- In an Installation that was never begun, every call returns NotDue and changes nothing.
 pub unbegun_steps : (i : Installation) (s : State) (e : Event) (r : Result Unit (Refusal InstallFault))
     → (i.mark == begun_mark) ≡ false → Represents i s → r ≡ Err (WrongUse NotDue)
     → Represents i (step s e).1 × (r ≡ (step s e).0)
 unbegun_steps i s e r is held wrong =
-    let at = (unbegun i s is held).0 in
+    let at = (unbegun_holds i s is held).0 in
     subst (λ (o : Option State). Represents i (answer s o).1 × (r ≡ (answer s o).0))
     (sym (ap (λ (op : Operation). after op e s) at ∙ nothing_accepts_no_event e s)) (held, wrong)
 
+-- The state after Done: the operation that always follows, except at CopyData (copied_at).
 pub done_proceeds : (op : Operation) (s : State) → is_copying op ≡ false
     → after op Done s ≡ proceed (next op) s
 done_proceeds fsm.CopyData s is = absurd (true≢false is)
@@ -454,10 +493,12 @@ pub in_use_at : (op : Operation) (s : State) → is_locking op ≡ true
 in_use_at fsm.Lock s is = refl
 in_use_at _ s is = absurd (true≢false (sym is))
 
-pub no_use_at : (op : Operation) (s : State) → is_locking op ≡ false → after op InUse s ≡ None
-no_use_at fsm.Lock s is = absurd (true≢false is)
-no_use_at _ s is = refl
+pub no_in_use_at : (op : Operation) (s : State) → is_locking op ≡ false → after op InUse s ≡ None
+no_in_use_at fsm.Lock s is = absurd (true≢false is)
+no_in_use_at _ s is = refl
 
+-- No failure fits after the end of a run. While files are removed, the run goes on to its end (removing_at).
+-- At all other operations it is rejected (failed_at).
 pub ended_accepts_no_failure : (op : Operation) (f : NamedFault) (s : State) → is_over op ≡ true
     → after op (Failed f) s ≡ None
 ended_accepts_no_failure fsm.Nothing f s is = refl

@@ -1,3 +1,4 @@
+-- The lemmas that the proofs of minisign_install use.
 mod Applications
 mod Applying
 mod Checking

@@ -8,8 +8,8 @@ use Rattle.minisign_base.specs.declared.faults.NamedFault.TheVariants as named
 use Rattle.minisign_external.specs.declared.public_keys.PublicKeyValue.{PublicKeyValue}
 use Rattle.minisign_hash.specs.Blake2b.{blake2b_digest}
 use Rattle.minisign_install.proofs.Listings.{digest_is, list_digest}
-use Rattle.minisign_install.proofs.SafeCalls.{begins, knows}
-use Rattle.minisign_install.proofs.StepSafety.{Known, Passed}
+use Rattle.minisign_install.proofs.SafeCalls.{begins, state_invariant}
+use Rattle.minisign_install.proofs.StepSafety.{InvariantAt, Passed}
 use Rattle.minisign_install.proofs.Tracing.{known_from}
 use Rattle.minisign_install.specs.Applications.{Applies, Call, Snapshot}
 use Rattle.minisign_install.specs.Histories.{is_for_list}
@@ -48,6 +48,7 @@ looked_up : (utf8 : Bool) (r : Result Entry ListFault) (fault : ListFault) (entr
 looked_up true r fault entry is = is
 looked_up false r fault entry is = absurd (true≢false (sym (ap found is)))
 
+-- If the data is accepted with a list, the list has an entry for the name, with the digest of the data.
 listed_with : (mode : Option LongDigest) (list name m : List ℕ) (long : LongDigest) → mode ≡ Some long
     → fits_list mode list name m ≡ true
     → (entry : Entry) × (listed_entry long list name ≡ Ok entry) × (has_digest entry.digest m ≡ true)
@@ -73,16 +74,18 @@ update_is_listed w o s update long is =
 
 -- == The signature of the list ==
 
-either : (is : Bool) (b : Bool) (x y : State) → x.is_list_signed ≡ b → y.is_list_signed ≡ b
+-- The result of a conditional has the property if both branches have it.
+both_branches : (is : Bool) (b : Bool) (x y : State) → x.is_list_signed ≡ b → y.is_list_signed ≡ b
     → (if is then x else y).is_list_signed ≡ b
-either true b x y one other = one
-either false b x y one other = other
+both_branches true b x y one other = one
+both_branches false b x y one other = other
 
 compare : (s : State) → (fsm.compare s).is_list_signed ≡ s.is_list_signed
 compare s =
-    either (fsm.is_newer s) s.is_list_signed (fsm.install s) _ refl
-    (either (is_some s.recorded.digest) s.is_list_signed (fsm.go fsm.CheckRecord s) _ refl
-    (either (fsm.is_rolling_back s) s.is_list_signed (fsm.install s) (fsm.go fsm.ReadTarget s) refl refl))
+    both_branches (fsm.is_newer s) s.is_list_signed (fsm.install s) _ refl
+    (both_branches (is_some s.recorded.digest) s.is_list_signed (fsm.go fsm.CheckRecord s) _ refl
+    (both_branches (fsm.is_rolling_back s) s.is_list_signed (fsm.install s) (fsm.go fsm.ReadTarget s) refl
+    refl))
 
 after_record : (r : Result Recorded InstallFault) (s : State)
     → (fsm.after_record r s).is_list_signed ≡ s.is_list_signed
@@ -97,7 +100,7 @@ after_signature (Err fault) time s = refl
 after_comment : (fault : Option InstallFault) (s : State)
     → (fsm.after_comment fault s).is_list_signed ≡ s.is_list_signed
 after_comment None s =
-    either (is_some s.options.list) s.is_list_signed (fsm.go fsm.ReadList s) _ refl (compare s)
+    both_branches (is_some s.options.list) s.is_list_signed (fsm.go fsm.ReadList s) _ refl (compare s)
 after_comment (Some fault) s = refl
 
 next_key : (signers : List PublicKeyValue) (s : State)
@@ -108,13 +111,14 @@ next_key (v ∷ u ∷ more) s = refl
 
 after_digest : (accepted : Bool) (s : State) → (fsm.after_digest accepted s).is_list_signed ≡ s.is_list_signed
 after_digest accepted s =
-    either (not accepted && fsm.is_rolling_back s) s.is_list_signed (fsm.install s)
+    both_branches (not accepted && fsm.is_rolling_back s) s.is_list_signed (fsm.install s)
     (record s { due = fsm.ReadTarget; is_recorded = accepted }) refl refl
 
 after_target : (accepted : Bool) (s : State) → (fsm.after_target accepted s).is_list_signed ≡ s.is_list_signed
 after_target true s = refl
 after_target false s =
-    either (s.is_recorded || s.options.again) s.is_list_signed (fsm.install s) (fsm.reject SameNumber s)
+    both_branches (s.is_recorded || s.options.again) s.is_list_signed (fsm.install s)
+    (fsm.reject SameNumber s)
     refl refl
 
 after_data : (listed : Bool) (s : State) → (fsm.after_data listed s).is_list_signed ≡ s.is_list_signed
@@ -125,12 +129,12 @@ after_piece : (n : ℕ) (left : Option ℕ) (s : State)
     → (fsm.after_piece n left s).is_list_signed ≡ s.is_list_signed
 after_piece n None s = refl
 after_piece n (Some left) s =
-    either (nat_le n left) s.is_list_signed _ (fsm.reject OtherSize s) refl refl
+    both_branches (nat_le n left) s.is_list_signed _ (fsm.reject OtherSize s) refl refl
 
 after_copy : (left : Option ℕ) (s : State) → (fsm.after_copy left s).is_list_signed ≡ s.is_list_signed
 after_copy None s = refl
 after_copy (Some left) s =
-    either (left == 0) s.is_list_signed (fsm.go fsm.ReadBack s) (fsm.reject OtherSize s) refl refl
+    both_branches (left == 0) s.is_list_signed (fsm.go fsm.ReadBack s) (fsm.reject OtherSize s) refl refl
 
 -- The event does not change `is_list_signed`, or it is the event that Ed25519 has accepted the signature of
 -- the list.
@@ -138,11 +142,13 @@ abbrev KeepsListStatus : State → Event → Option State → Type 0
 KeepsListStatus s e next =
     IfSome next (λ t. (t.is_list_signed ≡ s.is_list_signed) ⊎ ((s.due ≡ fsm.CheckList) × (e ≡ Answered true)))
 
+-- Nothing has to be proved if the event does not fit.
 holds_if_some : (is : Bool) (s t : State) (e : Event) → t.is_list_signed ≡ s.is_list_signed
     → KeepsListStatus s e (if is then Some t else None)
 holds_if_some true s t e same = inl same
 holds_if_some false s t e same = tt
 
+-- An operation changes `is_list_signed` only at CheckList, if Ed25519 accepts.
 op_keeps : (op : Operation) (e : Event) (s : State) → s.due ≡ op → KeepsListStatus s e (after op e s)
 op_keeps fsm.Nothing (fsm.Failed f) s at = tt
 op_keeps fsm.Installed (fsm.Failed f) s at = tt
@@ -190,24 +196,26 @@ op_keeps fsm.SyncFileName fsm.Done s at = inl refl
 op_keeps fsm.RemoveFiles fsm.Done s at = inl refl
 op_keeps op e s at = tt
 
-moved : (s : State) (e : Event) (next : Option State) → KeepsListStatus s e next
+-- The same for the state that `step` returns.
+answer_keeps : (s : State) (e : Event) (next : Option State) → KeepsListStatus s e next
     → ((answer s next).1.is_list_signed ≡ s.is_list_signed)
     ⊎ ((s.due ≡ fsm.CheckList) × (e ≡ Answered true))
-moved s e (Some t) kept = kept
-moved s e None kept = inl refl
+answer_keeps s e (Some t) kept = kept
+answer_keeps s e None kept = inl refl
 
-becomes : (s t : State) (e : Event)
+-- If `is_list_signed` becomes true, CheckList was due, and Ed25519 has accepted.
+becomes_signed : (s t : State) (e : Event)
     → (t.is_list_signed ≡ s.is_list_signed) ⊎ ((s.due ≡ fsm.CheckList) × (e ≡ Answered true))
     → s.is_list_signed ≡ false → t.is_list_signed ≡ true → (s.due ≡ fsm.CheckList) × (e ≡ Answered true)
-becomes s t e (inl same) not is = absurd (true≢false (sym is ∙ same ∙ not))
-becomes s t e (inr why) not is = why
+becomes_signed s t e (inl same) not is = absurd (true≢false (sym is ∙ same ∙ not))
+becomes_signed s t e (inr why) not is = why
 
 -- `is_list_signed` becomes true only if Ed25519 accepts the signature in the question about the digest of
 -- the list.
 pub list_is_signed : (s : State) (e : Event) → s.is_list_signed ≡ false → (step s e).1.is_list_signed ≡ true
     → (s.due ≡ fsm.CheckList) × (e ≡ Answered true)
 list_is_signed s e not is =
-    becomes s (step s e).1 e (moved s e (after s.due e s) (op_keeps s.due e s refl)) not is
+    becomes_signed s (step s e).1 e (answer_keeps s e (after s.due e s) (op_keeps s.due e s refl)) not is
 
 -- Until the list is found to be signed, no line is at fault.
 pub no_line : (s : State) → s.is_list_signed ≡ false → fsm.line_at_fault s ≡ 0
@@ -215,7 +223,7 @@ no_line s not = rw not refl
 
 -- == Without a list ==
 
-no_list_at : (w : World) (o : Options) (op : Operation) (s : State) → Known w o op s → o.list ≡ None
+no_list_at : (w : World) (o : Options) (op : Operation) (s : State) → InvariantAt w o op s → o.list ≡ None
     → is_for_list op ≡ false
 no_list_at w o fsm.ReadList s known none = absurd (true≢false (sym known.1 ∙ ap is_some none))
 no_list_at w o fsm.CheckList s known none = absurd (true≢false (sym known.1 ∙ ap is_some none))
@@ -226,4 +234,4 @@ pub no_list_read : (w : World) (o : Options) (m : Snapshot) (calls : List Call) 
     → o.list ≡ None → Applies w (begin o) m calls t end → is_for_list t.due ≡ false
 no_list_read w o m calls t end none run =
     let (k, invariant) = known_from w o 0 (begin o) m calls t end (begins w o ⊤ ⊥ m) run in
-    no_list_at w o t.due t (knows w o ⊤ ⊥ k t end invariant) none
+    no_list_at w o t.due t (state_invariant w o ⊤ ⊥ k t end invariant) none

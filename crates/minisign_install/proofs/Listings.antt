@@ -34,22 +34,26 @@ digest_at : (mode : Option LongDigest) (l : Listing) (list name m : List ℕ) �
 digest_at None l list name m is = refl
 digest_at (Some long) l list name m is = ap (λ (x : Listing). x.digest) (is refl)
 
+-- The state has the result of looking up the name in the list, so it accepts the same files.
 pub listed_is : (w : World) (o : Options) (s : State) → s.options ≡ o → HasListing w o s
     → is_listed s ≡ fits_list o.list w.list w.name s.read
 listed_is w o s same is =
     ap (λ (x : Options). fits_listed x.list s.listing.listed s.read) same
     ∙ fits_at o.list s.listing w.list w.name s.read is
 
+-- The digest that has to be signed is that of the list or, without a list, of the data.
 pub digest_is : (w : World) (o : Options) (s : State) → s.options ≡ o → HasListing w o s
     → signed_digest s ≡ digest_to_sign o.list w.list s.read
 digest_is w o s same is =
     ap (λ (x : Options). if is_some x.list then s.listing.digest else blake2b_digest 64 s.read) same
     ∙ digest_at o.list s.listing w.list w.name s.read is
 
+-- If the flag says that there is a value, there is one.
 pub value_if_some : {A : Type 0} (a : Option A) → is_some a ≡ true → (x : A) × (a ≡ Some x)
 value_if_some (Some x) is = (x, refl)
 value_if_some None is = absurd (true≢false (sym is))
 
+-- Both sides of a true conjunction are true, and the other direction (and_true).
 pub both_true : (a b : Bool) → (a && b) ≡ true → (a ≡ true) × (b ≡ true)
 both_true true b is = (refl, is)
 both_true false b is = absurd (true≢false (sym is))
@@ -87,6 +91,7 @@ listed_digest_at (Some long) l list name m some is fits =
     let (digest, ok) = ok_of (digest_found (entry_in long list name)) m fits in
     (digest, ap (λ (x : Listing). x.listed) (is refl) ∙ ok)
 
+-- If the data is listed, the state has its digest.
 pub listed_digest_of : (w : World) (o : Options) (s : State) (m : List ℕ) → is_some o.list ≡ true
     → HasListing w o s → fits_list o.list w.list w.name m ≡ true
     → (digest : ListedDigest) × (s.listing.listed ≡ Ok digest)
@@ -98,6 +103,7 @@ pub same_digest : (mode : Option LongDigest) (list m n : List ℕ) → is_some m
     → digest_to_sign mode list m ≡ digest_to_sign mode list n
 same_digest mode list m n some = rw some refl
 
+-- With a list, the digest that has to be signed is that of the list.
 pub list_digest : (mode : Option LongDigest) (list m : List ℕ) (h : LongDigest) → mode ≡ Some h
     → digest_to_sign mode list m ≡ blake2b_digest 64 list
 list_digest mode list m h is = rw is refl

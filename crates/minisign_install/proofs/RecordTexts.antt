@@ -26,6 +26,7 @@ use Rattle.minisign_install.proofs.Fields.{strips}
 
 -- == A digest ==
 
+-- The bytes of a number, of two lists that are joined, of words and of the beginning of a list are below 256.
 bytes_of_number : (k i n j : ℕ) → slice_index (bytes_low_first i k n) j < 256
 bytes_of_number zero i n j = omega arith
 bytes_of_number (suc k) zero n zero = omega arith
@@ -49,6 +50,7 @@ front_bytes (suc n) [] h i = h i
 front_bytes (suc n) (x ∷ xs) h zero = h 0
 front_bytes (suc n) (x ∷ xs) h (suc i) = front_bytes n xs (λ k. h (suc k)) i
 
+-- A BLAKE2b digest consists of 64 bytes.
 pub digest_bytes : (m : List ℕ) → IsBytes (blake2b_digest 64 m)
 unfolding blake2b_digest bytes_of_words64
 digest_bytes m = front_bytes 64 _ (words_bytes _)
@@ -59,6 +61,7 @@ length_digest m = refl
 
 -- == A record ==
 
+-- A record has at most one version number for a field.
 pub same_number : (numbering : Numbering) (bytes : List ℕ) (n m : ℕ) → IsNumberFor numbering bytes n
     → IsNumberFor numbering bytes m → n ≡ m
 same_number numbering bytes n m a b = sym a.number.value_is ∙ b.number.value_is
@@ -67,6 +70,7 @@ label_short : (numbering : Numbering) → length (number_label numbering) ≤ 10
 label_short Timestamp = omega arith
 label_short Version = omega arith
 
+-- The first line of a record has at most 30 bytes.
 line_short : (numbering : Numbering) (n : ℕ) → n < 2 ^ 64 → length (number_label numbering ++ decimal n) ≤ 30
 line_short numbering n bound =
     omega (
@@ -76,6 +80,7 @@ line_short numbering n bound =
       length-decimal-le 20 n (omega arith) (omega arith) bound,
     )
 
+-- The length of the two last lines.
 pub length-last_lines : (key digest : List ℕ)
     → length (last_lines key digest) ≡ 2 + 2 * length key + 2 * length digest
 length-last_lines key digest =
@@ -88,6 +93,7 @@ length-last_lines key digest =
 
 module _ (numbering : Numbering) (n : ℕ) (bound : n < 2 ^ 64) (key digest : List ℕ) (key_whole : length key
     ≡ 32) (digest_whole : length digest ≡ 64) where
+  -- The first line of a record, without its line feed.
   abbrev line : List ℕ
   line = number_label numbering ++ decimal n
 
@@ -107,6 +113,7 @@ module _ (numbering : Numbering) (n : ℕ) (bound : n < 2 ^ 64) (key digest : Li
       get_or-append_right line (last_lines key digest) (length (line ++ last_lines key digest) - 194) 0
       (omega (arith, len)) ∙ ap (λ i. get_or (last_lines key digest) i 0) at
 
+  -- A record that is written has three lines, and the first one has the version number (text_of).
   is_written : has_last_lines (record_of numbering n key digest) ≡ true
   is_written =
       rw (
@@ -123,11 +130,13 @@ module _ (numbering : Numbering) (n : ℕ) (bound : n < 2 ^ 64) (key digest : Li
       rw (lt-leb (length xs) 64 (omega (arith, len)), is_written) (ap (λ i. take i xs) at
       ∙ take_at line (last_lines key digest) (length line) refl)
 
+-- The labels are UTF-8.
 pub label_utf8 : (numbering : Numbering) → IsUtf8 (number_label numbering)
 unfolding lib.Utf8.encode
 label_utf8 Timestamp = (codes "timestamp:", (refl, refl))
 label_utf8 Version = (codes "version:", (refl, refl))
 
+-- A record has the version number that it was written with.
 pub record_reads : (numbering : Numbering) (n : ℕ) → n < 2 ^ 64 → (key digest : List ℕ) → length key ≡ 32
     → length digest ≡ 64 → IsNumberFor numbering (record_of numbering n key digest) n
 record_reads numbering n bound key digest key_whole digest_whole =

@@ -15,16 +15,16 @@ use Rattle.minisign_install.specs.RecordTexts.{record_text}
 use Rattle.minisign_install.proofs.Decisions.{number_reads, reads_number}
 use Rattle.minisign_install.proofs.RecordTexts.{label_utf8}
 
-picked : (is : Bool) (o : Option (List ℕ)) (rest : List ℕ) → (if is then o else None) ≡ Some rest
+value_if_chosen : (is : Bool) (o : Option (List ℕ)) (rest : List ℕ) → (if is then o else None) ≡ Some rest
     → (is ≡ true) × (o ≡ Some rest)
-picked true o rest is = (refl, is)
-picked false o rest is = absurd (none-some rest is)
+value_if_chosen true o rest is = (refl, is)
+value_if_chosen false o rest is = absurd (none-some rest is)
 
 strip_is : (label text rest : List ℕ) → strip label text ≡ Some rest → text ≡ label ++ rest
 strip_is [] text rest is = same_Some text rest is
 strip_is (b ∷ label) [] rest is = absurd (none-some rest is)
 strip_is (b ∷ label) (c ∷ text) rest is =
-    let (same, more) = picked (c == b) (strip label text) rest is in
+    let (same, more) = value_if_chosen (c == b) (strip label text) rest is in
     ap (λ (d : ℕ). d ∷ text) (eqb-true c b same) ∙ ap (λ (l : List ℕ). b ∷ l) (strip_is label text rest more)
 
 digits_utf8 : (text : List ℕ) (n : ℕ) → IsNumberText text n → IsUtf8 text
@@ -51,12 +51,14 @@ no_number_recorded : (numbering : Numbering) (bytes : List ℕ) (o : Option ℕ)
 no_number_recorded numbering bytes None is none = refl
 no_number_recorded numbering bytes (Some n) is none = absurd (none n (recorded_holds numbering bytes n is))
 
+-- If a result satisfies the contract of reading the version number, it is that of `recorded_version`.
 pub version_is : (numbering : Numbering) (bytes : List ℕ) (r : Option ℕ)
     → MatchOption r (HasNoNumber numbering bytes) (IsNumberFor numbering bytes)
     → r ≡ recorded_version numbering bytes
 version_is numbering bytes None none = no_number_recorded numbering bytes _ refl none
 version_is numbering bytes (Some n) is = sym (number_reads _ n is.number)
 
+-- If an error satisfies the contract of `fault_for`, it is that of `record_fault`.
 pub fault_is : (numbering : Numbering) (bytes : List ℕ) (e : InstallFault)
     → ((e ≡ foreign_record_fault (other_field numbering))
     × ((n : ℕ) × IsNumberFor (other_field numbering) bytes n))

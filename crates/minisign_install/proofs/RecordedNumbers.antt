@@ -63,6 +63,7 @@ module _ (o : Options) (no_new_key : o.new_key ≡ false) where
       absurd (none-some k (sym reads ∙ ap (recorded_version o.numbering) same
       ∙ recorded_reads o.numbering all k holds))
 
+  -- The lemma applies_as_before for a record, and below for a missing one (no_record).
   by_version : (bytes : List ℕ) (version applicable : Option ℕ) → recorded_version o.numbering bytes ≡ version
       → AppliesAs o.numbering o.first (used_record_for o (Some bytes)) applicable
       → version_of (judge_version o bytes version) applicable

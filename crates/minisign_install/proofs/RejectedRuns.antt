@@ -25,11 +25,13 @@ use Rattle.minisign_install.specs.Step.{ListRead}
 abbrev empty_disk : Disk
 empty_disk = record { target = None; record_bytes = None }
 
+-- The disk after an operation that succeeds.
 abbrev disk_after : Operation → Event → State → Disk → Disk
 disk_after fsm.RenameRecord Done s d = record d { record_bytes = Some (new_record s) }
 disk_after fsm.RenameFile Done s d = record d { target = Some s.read }
 disk_after op e s d = d
 
+-- This is one of the changes that the operation may make.
 changes : (op : Operation) (e : Event) (s : State) (d : Disk) → Succeeds e
     → Changes op s e d (disk_after op e s d)
 changes op (Failed f) s d fine = absurd fine
@@ -40,6 +42,7 @@ changes fsm.RenameRecord e s d fine = refl
 changes fsm.RenameFile e s d fine = refl
 changes op e s d fine = refl
 
+-- Syncing a file does not change its content.
 same_content : (is : Bool) (file : File)
     → content (if is then Some (record file { synced = true }) else Some file) ≡ Some file.bytes
 same_content true file = refl
@@ -50,6 +53,7 @@ synced_content (Some n) (Some file) = same_content (file.number == n) file
 synced_content (Some n) None = refl
 synced_content None place = refl
 
+-- Snapshots that are equal have the same content.
 unchanged : (old new : Snapshot) → new ≡ old → LeavesContent old new
 unchanged old new is = rw is (refl, refl)
 
@@ -120,11 +124,11 @@ changes_nothing_from w n s d m (c ∷ more) t end (holds, later) (others, fits, 
 
 -- If no operation fails and the lock is free, a run that is rejected leaves the content of the target and of
 -- the record unchanged.
-pub rejected_leaves : (w : World) (o : Options) (m : Snapshot) (calls : List Call) (t : State)
+pub rejected_keeps_content : (w : World) (o : Options) (m : Snapshot) (calls : List Call) (t : State)
     (end : Snapshot)
     → Applies w (begin o) m calls t end → AllEvents Succeeds calls → t.due ≡ fsm.Rejected
     → AllCalls LeavesContent calls
-rejected_leaves w o m calls t end run fine rejected =
+rejected_keeps_content w o m calls t end run fine rejected =
     let (events, last, runs, succeed, back) =
     changes_nothing_from w 0 (begin o) empty_disk m calls t end (true_run w o m calls t end run) run fine in
     (back (rejected_changes_nothing w o empty_disk last events t runs succeed rejected)).1

@@ -17,8 +17,8 @@ use Rattle.minisign_install.specs.Step as fsm
 use Rattle.minisign_install.specs.StepRuns.{IsSigned, IsUpdate, World, count, first_signer}
 use Rattle.minisign_install.proofs.RollBacks.{has_digest, not_newer, not_older, not_signed, same_ok}
 use Rattle.minisign_install.proofs.RollBacks.{version_reads_back}
-use Rattle.minisign_install.proofs.SafeCalls.{Invariant, begins, knows, next}
-use Rattle.minisign_install.proofs.StepSafety.{IsJudged, Known, Passed, text_parsed}
+use Rattle.minisign_install.proofs.SafeCalls.{Invariant, begins, state_invariant, next}
+use Rattle.minisign_install.proofs.StepSafety.{IsJudged, InvariantAt, Passed, text_parsed}
 use Rattle.minisign_install.specs.Step.{signed_digest}
 use Rattle.minisign_install.specs.StepRuns.{HasListing, IsListAccepted}
 use Rattle.minisign_install.proofs.Listings.{digest_is, listed_as, signer_is}
@@ -28,10 +28,11 @@ use Rattle.std.proofs.Common.{subst}
 module _ (v : World) (p : Options) (k : ℕ) (digest : List ℕ) (r : Recorded)
     (record_applies : judge_record p v.found_record ≡ Ok r) (version : r.version ≡ Some k)
     (written : r.digest ≡ Some digest) (whole : AcceptsWholeKeys v.accepts)
-    (update : IsOtherUpdate v p k digest) (once : p.again ≡ false) (g : IsSigned v p)
+    (update : IsOtherUpdate v p k digest) (not_again : p.again ≡ false) (g : IsSigned v p)
     (accepted_list : IsListAccepted g) where
-  abbrev IsInstalled : Snapshot → Type 0
-  IsInstalled m = is_some m.target ≡ true
+  -- There is a file at the target.
+  abbrev HasTarget : Snapshot → Type 0
+  HasTarget m = is_some m.target ≡ true
 
   -- The comment is not rejected, and one of the signers has signed it.
   abbrev IsAcceptable : State → Type 0
@@ -45,14 +46,14 @@ module _ (v : World) (p : Options) (k : ℕ) (digest : List ℕ) (r : Recorded)
 
   -- Invariant of a run that ends with this error or finds the update installed.
   abbrev OnTrack : Operation → State → Snapshot → Type 0
-  OnTrack fsm.Lock s m = IsInstalled m
-  OnTrack fsm.ReadRecord s m = IsInstalled m
-  OnTrack fsm.ReadSignature s m = IsInstalled m
-  OnTrack fsm.CheckComment s m = IsInstalled m × IsAcceptable s
-  OnTrack fsm.ReadList s m = IsInstalled m × IsByKey s
-  OnTrack fsm.CheckList s m = IsInstalled m × IsByKey s
-  OnTrack fsm.CheckRecord s m = IsInstalled m
-  OnTrack fsm.ReadTarget s m = IsInstalled m × (s.is_recorded ≡ false)
+  OnTrack fsm.Lock s m = HasTarget m
+  OnTrack fsm.ReadRecord s m = HasTarget m
+  OnTrack fsm.ReadSignature s m = HasTarget m
+  OnTrack fsm.CheckComment s m = HasTarget m × IsAcceptable s
+  OnTrack fsm.ReadList s m = HasTarget m × IsByKey s
+  OnTrack fsm.CheckList s m = HasTarget m × IsByKey s
+  OnTrack fsm.CheckRecord s m = HasTarget m
+  OnTrack fsm.ReadTarget s m = HasTarget m × (s.is_recorded ≡ false)
   OnTrack fsm.CheckTarget s m = s.is_recorded ≡ false
   OnTrack fsm.SyncTarget s m = ⊤
   OnTrack fsm.SyncTargetName s m = ⊤
@@ -60,59 +61,63 @@ module _ (v : World) (p : Options) (k : ℕ) (digest : List ℕ) (r : Recorded)
   OnTrack fsm.Rejected s m = s.error ≡ Some SameNumber
   OnTrack op s m = ⊥
 
-  abbrev Holds : Snapshot → State → Type 0
-  Holds m s = OnTrack s.due s m
+  -- The invariant of a state, for the operation that is due in it.
+  abbrev StateInvariant : Snapshot → State → Type 0
+  StateInvariant m s = OnTrack s.due s m
 
-  ended : (op : Operation) (s : State) (m : Snapshot) → OnTrack op s m → has_ended op ≡ true
+  -- If the run has ended, the update is installed already, or the error is SameNumber.
+  end_in_state : (op : Operation) (s : State) (m : Snapshot) → OnTrack op s m → has_ended op ≡ true
       → (op ≡ fsm.AlreadyInstalled) ⊎ ((op ≡ fsm.Rejected) × (s.error ≡ Some SameNumber))
-  ended fsm.AlreadyInstalled s m on is = inl refl
-  ended fsm.Rejected s m on is = inr (refl, on)
-  ended fsm.Installed s m on is = absurd on
-  ended fsm.WouldInstall s m on is = absurd on
-  ended op s m on is = absurd (true≢false (sym is))
+  end_in_state fsm.AlreadyInstalled s m kept is = inl refl
+  end_in_state fsm.Rejected s m kept is = inr (refl, kept)
+  end_in_state fsm.Installed s m kept is = absurd kept
+  end_in_state fsm.WouldInstall s m kept is = absurd kept
+  end_in_state op s m kept is = absurd (true≢false (sym is))
 
-  compare : (s : State) (m : Snapshot) → IsJudged v p s → IsInstalled m → Holds m (fsm.compare s)
+  compare : (s : State) (m : Snapshot) → IsJudged v p s → HasTarget m → StateInvariant m (fsm.compare s)
   compare s m judged present = rw (
-    not_newer v p k digest r record_applies version written whole update once s judged,
-    has_digest v p k digest r record_applies version written whole update once s judged,
+    not_newer v p k digest r record_applies version written whole update not_again s judged,
+    has_digest v p k digest r record_applies version written whole update not_again s judged,
   ) present
 
   after_signature : (time : Option ℕ) (s : State) (m : Snapshot) → s.options ≡ p
       → judge_record p v.found_record ≡ Ok s.recorded
-      → comment_fault p (Some k) time g.text.comments.trusted ≡ None → IsInstalled m
-      → Holds m (fsm.after_signature (Ok (g.text, g.keys)) time s)
+      → comment_fault p (Some k) time g.text.comments.trusted ≡ None → HasTarget m
+      → StateInvariant m (fsm.after_signature (Ok (g.text, g.keys)) time s)
   after_signature time s m same judged fine present =
       let one = same_ok s.recorded r (sym judged ∙ record_applies) in
       (present, (rw (same, one, version) fine, g.signer, refl, refl))
 
   after_text : (found : Passed) (time : Option ℕ) (s : State) (m : Snapshot) → found ≡ Ok (g.text, g.keys)
       → s.options ≡ p → judge_record p v.found_record ≡ Ok s.recorded
-      → comment_fault p (Some k) time g.text.comments.trusted ≡ None → IsInstalled m
-      → Holds m (fsm.after_signature found time s)
+      → comment_fault p (Some k) time g.text.comments.trusted ≡ None → HasTarget m
+      → StateInvariant m (fsm.after_signature found time s)
   after_text found time s m is same judged fine present =
       rw is (after_signature time s m same judged fine present)
 
-  either : (is : Bool) (x y : State) (m : Snapshot) → Holds m x → Holds m y → Holds m (if is then x else y)
-  either true x y m one other = one
-  either false x y m one other = other
+  -- The result of a conditional has the property if both branches have it.
+  both_branches : (is : Bool) (x y : State) (m : Snapshot) → StateInvariant m x → StateInvariant m y
+      → StateInvariant m (if is then x else y)
+  both_branches true x y m one other = one
+  both_branches false x y m one other = other
 
   after_comment : (fault : Option InstallFault) (s : State) (m : Snapshot) → fault ≡ None → IsJudged v p s
-      → IsByKey s → IsInstalled m → Holds m (fsm.after_comment fault (record s { is_signed = true }))
+      → IsByKey s → HasTarget m → StateInvariant m (fsm.after_comment fault (record s { is_signed = true }))
   after_comment None s m none judged known present =
-      either (is_some s.options.list) (fsm.go fsm.ReadList (record s { is_signed = true })) _ m
+      both_branches (is_some s.options.list) (fsm.go fsm.ReadList (record s { is_signed = true })) _ m
       (present, known)
       (compare (record s { is_signed = true }) m judged present)
   after_comment (Some fault) s m none judged known present = absurd (none-some fault (sym none))
 
   -- The list is signed, and has the name.
   after_listing : (s : State) (m : Snapshot) (mode : Option LongDigest) → p.list ≡ mode → s.options ≡ p
-      → HasListing v p s → IsJudged v p s → is_some mode ≡ true → IsInstalled m
-      → Holds m (fsm.after_listing s.listing.listed s)
+      → HasListing v p s → IsJudged v p s → is_some mode ≡ true → HasTarget m
+      → StateInvariant m (fsm.after_listing s.listing.listed s)
   after_listing s m None is same listing judged some present = absurd (true≢false (sym some))
   after_listing s m (Some long) is same listing judged some present =
       let (signed, (found, has)) = accepted_list long is in
       let listed : Ok found ≡ s.listing.listed = sym has ∙ listed_as v p s long is listing in
-      subst (λ r. Holds m (fsm.after_listing r s)) listed (compare s m judged present)
+      subst (λ r. StateInvariant m (fsm.after_listing r s)) listed (compare s m judged present)
 
   not_refused : {P : Type 0} (s : State) (mode : Option LongDigest) → p.list ≡ mode → s.options ≡ p
       → HasListing v p s → IsByKey s → is_some mode ≡ true
@@ -125,7 +130,7 @@ module _ (v : World) (p : Options) (k : ℕ) (digest : List ℕ) (r : Recorded)
   next_key : (signers : List PublicKeyValue) (s : State) (m : Snapshot) → s.due ≡ fsm.CheckComment
       → s.signers ≡ signers → IsAcceptable s
       → false ≡ v.accepts (s.signature ++ g.text.comments.trusted) (fsm.key_of signers) s.comment_signature
-      → IsInstalled m → Holds m (fsm.next_key signers s)
+      → HasTarget m → StateInvariant m (fsm.next_key signers s)
   next_key [] s m at is (fine, signer, one, two) wrong present = absurd (none-some g.key (rw is at signer))
   next_key (x ∷ []) s m at is (fine, signer, one, two) wrong present =
       let not = rw (one, two) at wrong in
@@ -135,133 +140,150 @@ module _ (v : World) (p : Options) (k : ℕ) (digest : List ℕ) (r : Recorded)
       rw at (present, (fine, rw (is, sym not) at signer, one, two))
 
   after_digest : (accepted : Bool) (s : State) (m : Snapshot) → accepted ≡ false → IsJudged v p s
-      → IsInstalled m
-      → Holds m (fsm.after_digest accepted s)
+      → HasTarget m
+      → StateInvariant m (fsm.after_digest accepted s)
   after_digest true s m is judged present = absurd (true≢false is)
   after_digest false s m is judged present =
-      rw (not_older v p k digest r record_applies version written whole update once s judged) (present, refl)
+      rw (not_older v p k digest r record_applies version written whole update not_again s judged)
+      (present, refl)
 
   target_is_update : (check : Bool) (s : State) (m : Snapshot)
-      → Holds m (fsm.go (if check then fsm.AlreadyInstalled else fsm.SyncTarget) s)
+      → StateInvariant m (fsm.go (if check then fsm.AlreadyInstalled else fsm.SyncTarget) s)
   target_is_update true s m = tt
   target_is_update false s m = tt
 
-  otherwise : (recorded again : Bool) (s : State) (m : Snapshot) → s.due ≡ fsm.CheckTarget → recorded ≡ false
-      → again ≡ false → Holds m (if recorded || again then fsm.install s else fsm.reject SameNumber s)
-  otherwise true again s m at none not = absurd (true≢false none)
-  otherwise false true s m at none not = absurd (true≢false not)
-  otherwise false false s m at none not = rw at refl
+  -- The installed file is not the update, so the run is rejected, because --again is not given.
+  rejected_otherwise : (recorded again : Bool) (s : State) (m : Snapshot) → s.due ≡ fsm.CheckTarget
+      → recorded ≡ false
+      → again ≡ false
+      → StateInvariant m (if recorded || again then fsm.install s else fsm.reject SameNumber s)
+  rejected_otherwise true again s m at none not = absurd (true≢false none)
+  rejected_otherwise false true s m at none not = absurd (true≢false not)
+  rejected_otherwise false false s m at none not = rw at refl
 
   after_target : (accepted : Bool) (s : State) (m : Snapshot) → s.due ≡ fsm.CheckTarget
-      → s.is_recorded ≡ false → s.options ≡ p → Holds m (fsm.after_target accepted s)
+      → s.is_recorded ≡ false → s.options ≡ p → StateInvariant m (fsm.after_target accepted s)
   after_target true s m at is same = target_is_update s.options.check s m
   after_target false s m at is same =
-      otherwise s.is_recorded s.options.again s m at is (ap (λ (x : Options). x.again) same ∙ once)
+      rejected_otherwise s.is_recorded s.options.again s m at is
+      (ap (λ (x : Options). x.again) same ∙ not_again)
 
-  same_target : (old new : Snapshot) → new ≡ old → IsInstalled old → IsInstalled new
+  -- An operation that leaves the files alone leaves the installed file alone.
+  same_target : (old new : Snapshot) → new ≡ old → HasTarget old → HasTarget new
   same_target old new is present = rw is present
 
-  op_keeps : (op : Operation) (e : Event) (s : State) (old new : Snapshot) → s.due ≡ op → Known v p op s
+  -- An operation keeps the invariant.
+  op_keeps : (op : Operation) (e : Event) (s : State) (old new : Snapshot) → s.due ≡ op → InvariantAt v p op s
       → OnTrack op s old → Performs v s op e old new → IsAcceptableAt p k g.text e
-      → IfSome (after op e s) (Holds new)
-  op_keeps op (fsm.Failed f) s old new at known on is fine = absurd fine
-  op_keeps fsm.Lock fsm.InUse s old new at known on is fine = absurd fine
-  op_keeps fsm.Lock fsm.Done s old new at known on is fine = rw is.1 on
-  op_keeps fsm.ReadRecord (fsm.RecordRead found) s old new at known on is fine =
-      rw (known, is.0, record_applies) (same_target old new is.2 on)
-  op_keeps fsm.ReadSignature (fsm.SignatureRead text time) s old new at known on is fine =
+      → IfSome (after op e s) (StateInvariant new)
+  op_keeps op (fsm.Failed f) s old new at known kept is fine = absurd fine
+  op_keeps fsm.Lock fsm.InUse s old new at known kept is fine = absurd fine
+  op_keeps fsm.Lock fsm.Done s old new at known kept is fine = rw is.1 kept
+  op_keeps fsm.ReadRecord (fsm.RecordRead found) s old new at known kept is fine =
+      rw (known, is.0, record_applies) (same_target old new is.2 kept)
+  op_keeps fsm.ReadSignature (fsm.SignatureRead text time) s old new at known kept is fine =
       after_text (judge_text s.options text) time s new (rw (known.0, is.0) g.passed) known.0 known.1 fine
-      (same_target old new is.1 on)
-  op_keeps fsm.CheckComment (fsm.Answered true) s old new at known on is fine =
-      let (fine, signer, one, two) = on.1 in
+      (same_target old new is.1 kept)
+  op_keeps fsm.CheckComment (fsm.Answered true) s old new at known kept is fine =
+      let (fine, signer, one, two) = kept.1 in
       let accepted = is.0 g.text (text_parsed v p v.text g.text g.keys g.passed) in
       let key = signer_is v g.text g.key s.signers (rw (one, two) at accepted) signer in
-      after_comment s.fault s new fine known (one, key) (same_target old new is.1 on.0)
-  op_keeps fsm.CheckComment (fsm.Answered false) s old new at known on is fine =
-      next_key s.signers s new at refl on.1 (is.0 g.text (text_parsed v p v.text g.text g.keys g.passed))
-      (same_target old new is.1 on.0)
-  op_keeps fsm.ReadList (fsm.ListRead list name) s old new at known on is fine =
-      (same_target old new is.2 on.0, on.1)
-  op_keeps fsm.CheckList (fsm.Answered true) s old new at ((known, listing), some) on is fine =
+      after_comment s.fault s new fine known (one, key) (same_target old new is.1 kept.0)
+  op_keeps fsm.CheckComment (fsm.Answered false) s old new at known kept is fine =
+      next_key s.signers s new at refl kept.1 (is.0 g.text (text_parsed v p v.text g.text g.keys g.passed))
+      (same_target old new is.1 kept.0)
+  op_keeps fsm.ReadList (fsm.ListRead list name) s old new at known kept is fine =
+      (same_target old new is.2 kept.0, kept.1)
+  op_keeps fsm.CheckList (fsm.Answered true) s old new at ((known, listing), some) kept is fine =
       after_listing (record s { is_list_signed = true }) new p.list refl known.0.4 listing known.0 some
-      (same_target old new is.1 on.0)
-  op_keeps fsm.CheckList (fsm.Answered false) s old new at ((known, listing), some) on is fine =
-      not_refused s p.list refl known.0.4 listing on.1 some is.0
-  op_keeps fsm.CheckRecord (fsm.Answered accepted) s old new at known on is fine =
+      (same_target old new is.1 kept.0)
+  op_keeps fsm.CheckList (fsm.Answered false) s old new at ((known, listing), some) kept is fine =
+      not_refused s p.list refl known.0.4 listing kept.1 some is.0
+  op_keeps fsm.CheckRecord (fsm.Answered accepted) s old new at known kept is fine =
       let none =
-      is.0 ∙ rw (has_digest v p k digest r record_applies version written whole update once s known.0.0)
-      (not_signed v p k digest r record_applies version written whole update once s s.signers refl known.0) in
-      after_digest accepted s new none known.0.0 (same_target old new is.1 on)
-  op_keeps fsm.ReadTarget (fsm.PieceRead bytes) s old new at known on is fine =
-      rw at (same_target old new is.2 on.0, on.1)
-  op_keeps fsm.ReadTarget fsm.Done s old new at known on is fine = on.1
-  op_keeps fsm.ReadTarget fsm.TargetMissing s old new at known on is fine =
-      absurd (true≢false (sym on.0 ∙ ap is_some is.0))
-  op_keeps fsm.CheckTarget (fsm.Answered accepted) s old new at known on is fine =
-      after_target (accepted && fsm.is_listed s) s new at on known.0.0.4
-  op_keeps fsm.SyncTarget fsm.Done s old new at known on is fine = tt
-  op_keeps fsm.SyncTargetName fsm.Done s old new at known on is fine = tt
-  op_keeps fsm.Lock e s old new at known on is fine = tt
-  op_keeps fsm.ReadRecord e s old new at known on is fine = tt
-  op_keeps fsm.ReadSignature e s old new at known on is fine = tt
-  op_keeps fsm.CheckComment e s old new at known on is fine = tt
-  op_keeps fsm.ReadList e s old new at known on is fine = tt
-  op_keeps fsm.CheckList e s old new at known on is fine = tt
-  op_keeps fsm.CheckRecord e s old new at known on is fine = tt
-  op_keeps fsm.ReadTarget e s old new at known on is fine = tt
-  op_keeps fsm.CheckTarget e s old new at known on is fine = tt
-  op_keeps fsm.SyncTarget e s old new at known on is fine = tt
-  op_keeps fsm.SyncTargetName e s old new at known on is fine = tt
-  op_keeps fsm.AlreadyInstalled e s old new at known on is fine = tt
-  op_keeps fsm.Rejected e s old new at known on is fine = tt
-  op_keeps op e s old new at known on is fine = absurd on
+      is.0 ∙ rw (has_digest v p k digest r record_applies version written whole update not_again s known.0.0)
+      (not_signed v p k digest r record_applies version written whole update not_again s s.signers refl
+      known.0) in
+      after_digest accepted s new none known.0.0 (same_target old new is.1 kept)
+  op_keeps fsm.ReadTarget (fsm.PieceRead bytes) s old new at known kept is fine =
+      rw at (same_target old new is.2 kept.0, kept.1)
+  op_keeps fsm.ReadTarget fsm.Done s old new at known kept is fine = kept.1
+  op_keeps fsm.ReadTarget fsm.TargetMissing s old new at known kept is fine =
+      absurd (true≢false (sym kept.0 ∙ ap is_some is.0))
+  op_keeps fsm.CheckTarget (fsm.Answered accepted) s old new at known kept is fine =
+      after_target (accepted && fsm.is_listed s) s new at kept known.0.0.4
+  op_keeps fsm.SyncTarget fsm.Done s old new at known kept is fine = tt
+  op_keeps fsm.SyncTargetName fsm.Done s old new at known kept is fine = tt
+  op_keeps fsm.Lock e s old new at known kept is fine = tt
+  op_keeps fsm.ReadRecord e s old new at known kept is fine = tt
+  op_keeps fsm.ReadSignature e s old new at known kept is fine = tt
+  op_keeps fsm.CheckComment e s old new at known kept is fine = tt
+  op_keeps fsm.ReadList e s old new at known kept is fine = tt
+  op_keeps fsm.CheckList e s old new at known kept is fine = tt
+  op_keeps fsm.CheckRecord e s old new at known kept is fine = tt
+  op_keeps fsm.ReadTarget e s old new at known kept is fine = tt
+  op_keeps fsm.CheckTarget e s old new at known kept is fine = tt
+  op_keeps fsm.SyncTarget e s old new at known kept is fine = tt
+  op_keeps fsm.SyncTargetName e s old new at known kept is fine = tt
+  op_keeps fsm.AlreadyInstalled e s old new at known kept is fine = tt
+  op_keeps fsm.Rejected e s old new at known kept is fine = tt
+  op_keeps op e s old new at known kept is fine = absurd kept
 
-  moved : (s : State) (next : Option State) (m : Snapshot) → is_some next ≡ true → IfSome next (Holds m)
-      → Holds m (answer s next).1
-  moved s (Some t) m is holds = holds
-  moved s None m is holds = absurd (true≢false (sym is))
+  -- The invariant holds for the state that `step` returns, if the event fits.
+  answer_keeps : (s : State) (next : Option State) (m : Snapshot) → is_some next ≡ true
+      → IfSome next (StateInvariant m)
+      → StateInvariant m (answer s next).1
+  answer_keeps s (Some t) m is holds = holds
+  answer_keeps s None m is holds = absurd (true≢false (sym is))
 
-  stays : (op : Operation) (s : State) (m new : Snapshot) → new.target ≡ m.target → OnTrack op s m
+  -- The invariant still holds after changes by other processes, which leave the target alone.
+  kept_if_target_same : (op : Operation) (s : State) (m new : Snapshot) → new.target ≡ m.target
+      → OnTrack op s m
       → OnTrack op s new
-  stays fsm.Lock s m new is on = rw is on
-  stays fsm.ReadRecord s m new is on = rw is on
-  stays fsm.ReadSignature s m new is on = rw is on
-  stays fsm.CheckComment s m new is on = (rw is on.0, on.1)
-  stays fsm.ReadList s m new is on = (rw is on.0, on.1)
-  stays fsm.CheckList s m new is on = (rw is on.0, on.1)
-  stays fsm.CheckRecord s m new is on = rw is on
-  stays fsm.ReadTarget s m new is on = (rw is on.0, on.1)
-  stays fsm.CheckTarget s m new is on = on
-  stays fsm.SyncTarget s m new is on = tt
-  stays fsm.SyncTargetName s m new is on = tt
-  stays fsm.AlreadyInstalled s m new is on = tt
-  stays fsm.Rejected s m new is on = on
-  stays op s m new is on = absurd on
+  kept_if_target_same fsm.Lock s m new is kept = rw is kept
+  kept_if_target_same fsm.ReadRecord s m new is kept = rw is kept
+  kept_if_target_same fsm.ReadSignature s m new is kept = rw is kept
+  kept_if_target_same fsm.CheckComment s m new is kept = (rw is kept.0, kept.1)
+  kept_if_target_same fsm.ReadList s m new is kept = (rw is kept.0, kept.1)
+  kept_if_target_same fsm.CheckList s m new is kept = (rw is kept.0, kept.1)
+  kept_if_target_same fsm.CheckRecord s m new is kept = rw is kept
+  kept_if_target_same fsm.ReadTarget s m new is kept = (rw is kept.0, kept.1)
+  kept_if_target_same fsm.CheckTarget s m new is kept = kept
+  kept_if_target_same fsm.SyncTarget s m new is kept = tt
+  kept_if_target_same fsm.SyncTargetName s m new is kept = tt
+  kept_if_target_same fsm.AlreadyInstalled s m new is kept = tt
+  kept_if_target_same fsm.Rejected s m new is kept = kept
+  kept_if_target_same op s m new is kept = absurd kept
 
-  on_from : (n : ℕ) (s : State) (m : Snapshot) (calls : List Call) (t : State) (end : Snapshot)
-      → Invariant v p ⊤ ⊥ n s m → Holds m s → Applies v s m calls t end → OthersLeaveTarget m calls
-      → AllEvents (IsAcceptableAt p k g.text) calls → Holds end t
-  on_from n s m [] t end known on (is, same) leaves fine = rw (is, same) on
-  on_from n s m (c ∷ more) t end known on (others, fits, is, run) (leaves, rest) (fine, later) =
-      let before = stays s.due s m c.before leaves.0 on in
-      on_from (count n c.event) (step s c.event).1 c.after more t end
+  -- The invariant holds after a run that starts in a state in which it holds.
+  invariant_after : (n : ℕ) (s : State) (m : Snapshot) (calls : List Call) (t : State) (end : Snapshot)
+      → Invariant v p ⊤ ⊥ n s m → StateInvariant m s → Applies v s m calls t end → OthersLeaveTarget m calls
+      → AllEvents (IsAcceptableAt p k g.text) calls → StateInvariant end t
+  invariant_after n s m [] t end known kept (is, same) leaves fine = rw (is, same) kept
+  invariant_after n s m (c ∷ more) t end known kept (others, fits, is, run) (leaves, rest) (fine, later) =
+      let before = kept_if_target_same s.due s m c.before leaves.0 kept in
+      invariant_after (count n c.event) (step s c.event).1 c.after more t end
       (next v p ⊤ ⊥ n s m c known others (λ q. absurd q) fits is (λ found. tt))
-      (moved s (after s.due c.event s) c.after fits
+      (answer_keeps s (after s.due c.event s) c.after fits
       (op_keeps s.due c.event s c.before c.after refl
-      (knows v p ⊤ ⊥ n s m known) before is fine)) run rest later
+      (state_invariant v p ⊤ ⊥ n s m known) before is fine)) run rest later
 
-  starts : (check : Bool) (m : Snapshot) → IsInstalled m
+  -- The invariant holds when a run begins.
+  invariant_at_begin : (check : Bool) (m : Snapshot) → HasTarget m
       → OnTrack (if check then fsm.ReadRecord else fsm.Lock) (begin p) m
-  starts true m present = present
-  starts false m present = present
+  invariant_at_begin true m present = present
+  invariant_at_begin false m present = present
 
-  ends : (m : Snapshot) (calls : List Call) (t : State) (end : Snapshot) → Applies v (begin p) m calls t end
-      → OthersLeaveTarget m calls → IsInstalled m → AllEvents (IsAcceptableAt p k g.text) calls
+  -- The run ends with the update installed, or with the error SameNumber.
+  end_is_known : (m : Snapshot) (calls : List Call) (t : State) (end : Snapshot)
+      → Applies v (begin p) m calls t end
+      → OthersLeaveTarget m calls → HasTarget m → AllEvents (IsAcceptableAt p k g.text) calls
       → has_ended t.due ≡ true
       → (t.due ≡ fsm.AlreadyInstalled) ⊎ ((t.due ≡ fsm.Rejected) × (t.error ≡ Some SameNumber))
-  ends m calls t end run leaves present fine over =
-      ended t.due t end
-      (on_from 0 (begin p) m calls t end (begins v p ⊤ ⊥ m) (starts p.check m present) run leaves fine) over
+  end_is_known m calls t end run leaves present fine over =
+      end_in_state t.due t end
+      (invariant_after 0 (begin p) m calls t end (begins v p ⊤ ⊥ m) (invariant_at_begin p.check m present) run
+      leaves fine) over
 
 -- A later run with the version before the roll-back ends with this error, or finds the update installed.
 pub roll_back_is_named : (w : World) (o : Options) → AcceptsWholeKeys w.accepts → (s : State)
@@ -274,5 +296,5 @@ pub roll_back_is_named : (w : World) (o : Options) → AcceptsWholeKeys w.accept
     → (t.due ≡ fsm.AlreadyInstalled) ⊎ ((t.due ≡ fsm.Rejected) × (t.error ≡ Some SameNumber))
 roll_back_is_named w o whole s update k is less v p whole_later later other g listed m calls t end run leaves
     present fine over =
-    ends v p k (signed_digest s) _ (version_reads_back w o whole s update k is less v p later) refl
+    end_is_known v p k (signed_digest s) _ (version_reads_back w o whole s update k is less v p later) refl
     refl whole_later other later.not_again g listed m calls t end run leaves present fine over

@@ -1,4 +1,6 @@
--- Lemmas for the call `signature`: the new struct represents the state after the step.
+-- Lemmas for the call `signature`: it makes the step of the state machine in Step.antt. Progress is the
+-- struct that represents the state of a run, and Installation is the application's struct, which contains a
+-- Progress.
 use Rattle.std.specs.Prelude.{◌≡◌, ◌≢◌, ◌==◌, ◌++◌, ℕ, Bool, true, false, if◌then◌else◌, List, [], ◌∷◌}
 use Rattle.std.specs.Prelude.{Option, Some, None, Result, Ok, Err, IfOk, IfErr, bytes_eq}
 use Rattle.std.specs.Prelude.{filter}
@@ -23,7 +25,8 @@ use Rattle.minisign_install.specs.Installations.{RunLeadsTo}
 use Rattle.minisign_install.specs.Installations.{SignatureLeads, SignatureSteps, begun_mark}
 use Rattle.minisign_install.specs.Installations.{RepresentsIf, first_key, given, is_reading_signature}
 use Rattle.minisign_install.specs.Installations.{judge_form}
-use Rattle.minisign_install.specs.Installations.{operation_of, options_of, plain, judged_text, recorded_of}
+use Rattle.minisign_install.specs.Installations.{operation_of, options_of, without_length}
+use Rattle.minisign_install.specs.Installations.{judged_text, recorded_of}
 use Rattle.minisign_install.specs.Installations.{signature_read, state_of}
 use Rattle.minisign_install.specs.Step.{Operation, SignatureRead, State, after, after_signature, reject}
 use Rattle.minisign_install.specs.Step.{step}
@@ -32,51 +35,64 @@ use Rattle.minisign_install.specs.declared.installation.Installation.{Installati
 use Rattle.minisign_install.specs.declared.installation.progress.Chosen.{Chosen}
 use Rattle.minisign_install.specs.declared.installation.progress.Judgment.{Judgment}
 use Rattle.minisign_install.specs.declared.installation.progress.Progress.{Progress}
-use Rattle.minisign_install.proofs.HeldStates.{due_is, fits, unbegun_steps}
+use Rattle.minisign_install.proofs.HeldStates.{due_is, event_fits, unbegun_steps}
 
 -- == Texts ==
 
-utf8_false : (b : Bool) → ¬ (b ≡ true) → b ≡ false
-utf8_false true no_utf8 = absurd (no_utf8 refl)
-utf8_false false no_utf8 = refl
+-- A value that is not true is false.
+false_if_not_true : (b : Bool) → ¬ (b ≡ true) → b ≡ false
+false_if_not_true true not_true = absurd (not_true refl)
+false_if_not_true false not_true = refl
 
+-- The function `is_utf8` returns false for bytes that are not UTF-8.
 pub not_utf8 : (bytes : List ℕ) → ¬ (IsUtf8 bytes) → is_utf8 bytes ≡ false
-not_utf8 bytes is = utf8_false (is_utf8 bytes) (λ utf8. is (IsUtf8-from_is_utf8 bytes utf8))
+not_utf8 bytes malformed =
+    false_if_not_true (is_utf8 bytes) (λ utf8. malformed (IsUtf8-from_is_utf8 bytes utf8))
 
-pub of_text : (text bytes : List ℕ) → text ≡ bytes → IsUtf8 bytes
+-- The code parses a text, and the specification parses its bytes. Both results, converted by `view_of`, are
+-- the same.
+pub same_as_bytes : (text bytes : List ℕ) → text ≡ bytes → IsUtf8 bytes
     → map_ok view_of (read_signature text) ≡ map_ok view_of (read_utf8 read_signature bytes)
-of_text text bytes same utf8 = rw (same, is_utf8-from_IsUtf8 bytes utf8) refl
+same_as_bytes text bytes same utf8 = rw (same, is_utf8-from_IsUtf8 bytes utf8) refl
 
-pub no_text : (bytes : List ℕ) → ¬ (IsUtf8 bytes)
+-- Parsing bytes that are not UTF-8 has the error NotUtf8.
+pub no_text_read : (bytes : List ℕ) → ¬ (IsUtf8 bytes)
     → Err (Named NotUtf8) ≡ map_ok view_of (read_utf8 read_signature bytes)
-no_text bytes is = rw (not_utf8 bytes is) refl
+no_text_read bytes malformed = rw (not_utf8 bytes malformed) refl
 
+-- If the result of parsing, converted by `view_of`, is Ok v, a signature file was parsed, and v is its view.
 viewed : (r : Result SignatureTextRecord Fault) (v : SignatureViewRecord) → Ok v ≡ map_ok view_of r
     → (t : SignatureTextRecord) × (r ≡ Ok t) × (v ≡ view_of t)
-viewed (Ok t) v is = (t, refl, cc is)
-viewed (Err e) v is = absurd (cc is)
+viewed (Ok t) v same_view = (t, refl, cc same_view)
+viewed (Err e) v same_view = absurd (cc same_view)
 
-pub failed : (r : Result SignatureTextRecord Fault) (e : Fault) → Err e ≡ map_ok view_of r → r ≡ Err e
-failed (Ok t) e is = absurd (cc is)
-failed (Err f) e is = cc is
+-- If the result of parsing, converted by `view_of`, is an error, parsing has the same error.
+pub parsing_failed : (r : Result SignatureTextRecord Fault) (e : Fault) → Err e ≡ map_ok view_of r → r ≡ Err e
+parsing_failed (Ok t) e same_error = absurd (cc same_error)
+parsing_failed (Err f) e same_error = cc same_error
 
+-- If the bytes parse to a signature file with the view v, there is a signature file with this view.
 pub reads_view : (text : List ℕ) (v : SignatureViewRecord) → Ok v ≡ map_ok view_of
     (read_utf8 read_signature text)
     → (t : SignatureTextRecord) × (read_utf8 read_signature text ≡ Ok t) × (v ≡ view_of t)
-reads_view text v is = viewed (read_utf8 read_signature text) v is
+reads_view text v same_view = viewed (read_utf8 read_signature text) v same_view
 
 -- == The checks that need no Ed25519 ==
 
+-- If a given key has the key ID of the signature, the checks of `judge_form` have the result of all checks:
+-- the only other check is that there is such a key.
 pub form_judged : (o : Options) (signers : List PublicKeyValue) (t : SignatureTextRecord)
     (r : Result (List ℕ) Fault) → is_some (first_key signers) ≡ true
     → IsJudgedAs (judge_form t signers) t signers r → IsJudgedAs (judge_keys o signers t) t signers r
-form_judged o [] t r is judged = absurd (true≢false (sym is))
-form_judged o (v ∷ more) t r is judged = judged
+form_judged o [] t r has_key judged = absurd (true≢false (sym has_key))
+form_judged o (v ∷ more) t r has_key judged = judged
 
-pub read_ok : (s : State) (text : List ℕ) (t : SignatureTextRecord) (c : Chosen) (file : List ℕ)
+-- If the file name in the options is UTF-8 and the signature file was parsed, the result of the checks is
+-- that of `judge_keys`.
+pub parsed_result : (s : State) (text : List ℕ) (t : SignatureTextRecord) (c : Chosen) (file : List ℕ)
     → s.options ≡ options_of c file → is_utf8 s.options.file ≡ true → read_utf8 read_signature text ≡ Ok t
     → judged_text s text ≡ judge_keys s.options (given c t) t
-read_ok s text t c file options utf8 read =
+parsed_result s text t c file options utf8 read =
     ap (λ (b : Bool).
     require b NotUtf8 (and_then (read_utf8 read_signature text) (λ t.
     judge_keys s.options (filter (λ v. bytes_eq t.signature.keynum v.key_id) s.options.keys) t))) utf8
@@ -87,9 +103,11 @@ read_ok s text t c file options utf8 read =
     ∙ ap (λ (o : Options). judge_keys s.options (filter (λ v. bytes_eq t.signature.keynum v.key_id) o.keys) t)
     options
 
-pub read_err : (s : State) (text : List ℕ) (e : Fault) → is_utf8 s.options.file ≡ true
+-- If the file name in the options is UTF-8 and the signature file cannot be parsed, the result of the checks
+-- is the error of parsing.
+pub unparsed_result : (s : State) (text : List ℕ) (e : Fault) → is_utf8 s.options.file ≡ true
     → read_utf8 read_signature text ≡ Err e → judged_text s text ≡ Err e
-read_err s text e utf8 read =
+unparsed_result s text e utf8 read =
     ap (λ (b : Bool).
     require b NotUtf8 (and_then (read_utf8 read_signature text) (λ t.
     judge_keys s.options (filter (λ v. bytes_eq t.signature.keynum v.key_id) s.options.keys) t))) utf8
@@ -98,21 +116,25 @@ read_err s text e utf8 read =
     (λ t. judge_keys s.options (filter (λ v. bytes_eq t.signature.keynum v.key_id) s.options.keys) t))
     read
 
-pub no_name : (s : State) (text : List ℕ) → is_utf8 s.options.file ≡ false
+-- If the file name in the options is not UTF-8, the result of the checks is NotUtf8.
+pub bad_name_result : (s : State) (text : List ℕ) → is_utf8 s.options.file ≡ false
     → judged_text s text ≡ Err (Named NotUtf8)
-no_name s text is =
+bad_name_result s text malformed =
     ap (λ (b : Bool).
     require b NotUtf8 (and_then (read_utf8 read_signature text) (λ t.
-    judge_keys s.options (filter (λ v. bytes_eq t.signature.keynum v.key_id) s.options.keys) t))) is
+    judge_keys s.options (filter (λ v. bytes_eq t.signature.keynum v.key_id) s.options.keys) t))) malformed
 
--- == The new struct ==
+-- == The new Progress ==
 
+-- The list of those of two keys whose flag is true is the concatenation of one list for each key.
 both_signers : (a b : Bool) (v w : PublicKeyValue)
     → (if a then v ∷ (if b then w ∷ [] else []) else (if b then w ∷ [] else []))
     ≡ (if a then v ∷ [] else []) ++ (if b then w ∷ [] else [])
 both_signers true b v w = refl
 both_signers false b v w = refl
 
+-- The keys with the key ID of the signature are those whose flag in the struct, which was set by comparing
+-- the key IDs, is 1.
 signers_same : (t : SignatureTextRecord) (v w : PublicKeyValue) (a b : Bool)
     → a ≡ bytes_eq t.signature.keynum v.key_id → b ≡ bytes_eq t.signature.keynum w.key_id
     → filter (λ v. bytes_eq t.signature.keynum v.key_id) (v ∷ w ∷ [])
@@ -123,9 +145,12 @@ signers_same t v w a b one other =
     (if x then v ∷ [] else []) ++ (if bytes_eq t.signature.keynum w.key_id then w ∷ [] else [])) (sym one)
     ∙ ap (λ (x : Bool). (if a then v ∷ [] else []) ++ (if x then w ∷ [] else [])) (sym other)
 
+-- A field of the struct that is used only if `is_judged` is 1 has its value after the signature file was
+-- read.
 if_judged : (n : ℕ) (x y : List ℕ) → n ≡ 1 → y ≡ x → x ≡ (if n == 1 then y else [])
-if_judged n x y is same = sym same ∙ ap (λ (m : ℕ). if m == 1 then y else []) (sym is)
+if_judged n x y judged same = sym same ∙ ap (λ (m : ℕ). if m == 1 then y else []) (sym judged)
 
+-- The state s with the results of reading the signature file.
 abbrev with_text : State → List PublicKeyValue → List ℕ → List ℕ → Option InstallFault → ℕ → Option ℕ → State
 with_text s signers first second fault version size = record s {
   signers = signers;
@@ -137,12 +162,14 @@ with_text s signers first second fault version size = record s {
   left = size;
 }
 
+-- States with the same results of reading the signature file are the same.
 same_text : (s : State) {l m : List PublicKeyValue} {a b c d : List ℕ} {e f : Option InstallFault} {g h : ℕ}
     {j k : Option ℕ} → l ≡ m → a ≡ b → c ≡ d → e ≡ f → g ≡ h → j ≡ k
     → with_text s l a c e g j ≡ with_text s m b d f h k
 same_text s signers first second fault version size = λ i.
     with_text s (signers i) (first i) (second i) (fault i) (version i) (size i)
 
+-- The new Progress represents the state after the signature file was read.
 pub with_signature : (p : Progress) (s : State) (t : SignatureTextRecord) (second : List ℕ) (j : Judgment)
     (recorded time : Option ℕ) (key_matches other_key_matches : ℕ) (state_held : HoldsState p s)
     → recorded ≡ (recorded_of p.recorded).version
@@ -186,80 +213,92 @@ with_signature p s t second j recorded time key_matches other_key_matches state_
       fed = state_held.fed;
     }
 
-pub file_is : (p : Progress) (s : State) (state_held : HoldsState p s) (file : List ℕ) → s.options.file ≡ file
-    → file ≡ state_held.file
-file_is p s state_held file is = sym is ∙ ap (λ (x : State). x.options.file) state_held.state
+-- The file name in the options of a state is the one with which the Progress represents the state.
+pub same_file : (p : Progress) (s : State) (state_held : HoldsState p s) (file : List ℕ)
+    → s.options.file ≡ file → file ≡ state_held.file
+same_file p s state_held file named = sym named ∙ ap (λ (x : State). x.options.file) state_held.state
 
 -- == The call ==
 
--- If the run is rejected, no message is written.
+-- If the length of the message is 0 on success, there is no message, and the buffer is unchanged.
 none_written : (r : Result ℕ (Refusal InstallFault)) (m : List ℕ) → IfOk r (λ n. n ≡ 0)
     → IfOk r (λ n. HasMessage None n m m)
-none_written (Ok n) m is = (is, refl)
-none_written (Err e) m is = tt
+none_written (Ok n) m empty = (empty, refl)
+none_written (Err e) m empty = tt
 
-not_short : (r : Result ℕ (Refusal InstallFault)) (fault : InstallFault) → IfErr r (λ x. x ≡ Refused fault)
-    → r ≢ Err (WrongUse NoRoom)
-not_short (Ok n) fault is short = absurd (cc short)
-not_short (Err e) fault is short =
-    let same : e ≡ WrongUse NoRoom = cc short in
-    absurd (cc (sym same ∙ is))
+-- If every error of the call is this installation error, the result is not NoRoom.
+never_no_room : (r : Result ℕ (Refusal InstallFault)) (fault : InstallFault)
+    → IfErr r (λ x. x ≡ Refused fault) → r ≢ Err (WrongUse NoRoom)
+never_no_room (Ok n) fault same_fault no_room = absurd (cc no_room)
+never_no_room (Err e) fault same_fault no_room =
+    let same : e ≡ WrongUse NoRoom = cc no_room in
+    absurd (cc (sym same ∙ same_fault))
 
+-- If a check fails, the run is rejected with the error of this check, and no message is written.
 pub refused : (fault : Fault) (time : Option ℕ) (s : State) (r : Result ℕ (Refusal InstallFault))
-    (new : Progress) (m : List ℕ) → RunLeadsTo s (reject (Library fault) s) (plain r) new
+    (new : Progress) (m : List ℕ) → RunLeadsTo s (reject (Library fault) s) (without_length r) new
     → IfOk r (λ n. n ≡ 0)
     → IfErr r (λ x. x ≡ Refused (Library fault)) → SignatureLeads (Err fault) time s r new m m
-refused fault time s r new m leads none is = record {
-  leads = λ no_short. leads;
-  message = none_written r m none;
-  room = λ short. absurd (not_short r (Library fault) is short);
+refused fault time s r new m next_state empty error = record {
+  leads = λ has_room. next_state;
+  message = none_written r m empty;
+  room = λ no_room. absurd (never_no_room r (Library fault) error no_room);
 }
 
-reading_is : (op : Operation) → is_reading_signature op ≡ true → op ≡ fsm.ReadSignature
-reading_is fsm.ReadSignature is = refl
-reading_is _ is = absurd (true≢false (sym is))
+-- `is_reading_signature` is true only for ReadSignature.
+is_read_signature : (op : Operation) → is_reading_signature op ≡ true → op ≡ fsm.ReadSignature
+is_read_signature fsm.ReadSignature reading = refl
+is_read_signature _ reading = absurd (true≢false (sym reading))
 
-signature_at : (op : Operation) (text : Result SignatureTextRecord Fault) (time : Option ℕ) (s : State)
+-- If reading the signature file is due, the event SignatureRead fits.
+signature_fits : (op : Operation) (text : Result SignatureTextRecord Fault) (time : Option ℕ) (s : State)
     → is_reading_signature op ≡ true
     → after op (SignatureRead text time) s ≡ Some (after_signature (judge_text s.options text) time s)
-signature_at fsm.ReadSignature text time s is = refl
-signature_at _ text time s is = absurd (true≢false (sym is))
+signature_fits fsm.ReadSignature text time s reading = refl
+signature_fits _ text time s reading = absurd (true≢false (sym reading))
 
+-- If reading the signature file is due, the call makes the step with the event SignatureRead.
 pub signature_steps : (p q : Progress) (s : State) (text : List ℕ) (time : Option ℕ)
     (r : Result ℕ (Refusal InstallFault)) (before after : List ℕ) → HoldsState p s
     → is_reading_signature (operation_of p.due) ≡ true
     → SignatureLeads (judged_text s text) time s r q before after
     → SignatureSteps text time s r (HoldsState q) before after
-signature_steps p q s text time r before after state_held is leads = record {
-  steps = λ no_short.
-      fits s _ (signature_read text time) p q (plain r) state_held
-      (signature_at (operation_of p.due) (read_utf8 read_signature text) time s is) (leads.leads no_short);
-  message = leads.message;
-  room = λ short. (due_is p s state_held ∙ reading_is (operation_of p.due) is, leads.room short);
+signature_steps p q s text time r before after state_held reading outcome = record {
+  steps = λ has_room.
+      event_fits s _ (signature_read text time) p q (without_length r) state_held
+      (signature_fits (operation_of p.due) (read_utf8 read_signature text) time s reading)
+      (outcome.leads has_room);
+  message = outcome.message;
+  room = λ no_room.
+      (due_is p s state_held ∙ is_read_signature (operation_of p.due) reading, outcome.room no_room);
 }
 
 -- == An installation ==
 
+-- If the Progress after the call represents the state after the step, so does the Installation that contains
+-- it.
 pub begun_signature : (i : Installation) (p : Progress) (s : State) (text : List ℕ) (time : Option ℕ)
     (r : Result ℕ (Refusal InstallFault)) (before after : List ℕ) → (i.mark == begun_mark) ≡ true
     → SignatureSteps text time s r (HoldsState p) before after
     → SignatureSteps text time s r (Represents (record i { progress = p })) before after
-begun_signature i p s text time r before after is steps = record {
-  steps = λ no_short.
-      let (state_held, result) = steps.steps no_short in (
+begun_signature i p s text time r before after begun steps = record {
+  steps = λ has_room.
+      let (state_held, result) = steps.steps has_room in (
         subst (λ (b : Bool). RepresentsIf b p (step s (signature_read text time)).1)
-            (sym is) state_held,
+            (sym begun) state_held,
         result,
       );
   message = steps.message;
   room = steps.room;
 }
 
+-- In an Installation that was never begun, the call returns NotDue and changes nothing.
 pub unbegun_signature : (i : Installation) (s : State) (text : List ℕ) (time : Option ℕ) (m : List ℕ)
     → (i.mark == begun_mark) ≡ false → Represents i s
     → SignatureSteps text time s (Err (WrongUse NotDue)) (Represents i) m m
-unbegun_signature i s text time m is held = record {
-  steps = λ no_short. unbegun_steps i s (signature_read text time) (Err (WrongUse NotDue)) is held refl;
+unbegun_signature i s text time m unbegun represents = record {
+  steps = λ has_room.
+      unbegun_steps i s (signature_read text time) (Err (WrongUse NotDue)) unbegun represents refl;
   message = tt;
-  room = λ short. absurd (cc short);
+  room = λ no_room. absurd (cc no_room);
 }

@@ -16,7 +16,7 @@ use Rattle.minisign_install.specs.Step.{answer, has_ended, key_of, comment_quest
 use Rattle.minisign_install.specs.Step as fsm
 use Rattle.minisign_install.specs.StepRuns.{IsAcceptable, IsGoodUpdate, IsRun, IsLawfulEvent, IsTrueEvent}
 use Rattle.minisign_install.specs.StepRuns.{World, count}
-use Rattle.minisign_install.specs.StepRuns.{IsGoodRun, says_yes, first_signer}
+use Rattle.minisign_install.specs.StepRuns.{IsGoodRun, accepts_question, first_signer}
 use Rattle.minisign_install.proofs.StepEnds.{left, step_less}
 use Rattle.minisign_install.specs.Step.{ListRead, signed_digest}
 use Rattle.minisign_install.specs.StepRuns.{HasListing}
@@ -25,13 +25,13 @@ use Rattle.minisign_install.proofs.Listings.{digest_is, listed_digest_of, listed
 
 module _ (w : World) (o : Options) (g : IsGoodUpdate w o) where
   -- After n bytes were copied, the rest of the signed size is the length of the data that is left.
-  abbrev Left : ℕ → Option ℕ → Type 0
-  Left n None = ⊤
-  Left n (Some left) = left + n ≡ length w.update
+  abbrev IsRest : ℕ → Option ℕ → Type 0
+  IsRest n None = ⊤
+  IsRest n (Some left) = left + n ≡ length w.update
 
   -- The state has the signature of the update, the key that signed it, and the listing of the update.
-  abbrev StateKnows : State → Type 0
-  StateKnows s =
+  abbrev IsOfUpdate : State → Type 0
+  IsOfUpdate s =
       (s.signature ≡ g.text.signature.signature) × (key_of s.signers ≡ g.key) × (s.options ≡ o)
       × HasListing w o s
 
@@ -44,7 +44,7 @@ module _ (w : World) (o : Options) (g : IsGoodUpdate w o) where
 
   -- The data is being copied, and n bytes of it were copied.
   abbrev IsReady : ℕ → State → Type 0
-  IsReady n s = StateKnows s × Left n s.left × (s.read ≡ []) × (n ≤ length w.update)
+  IsReady n s = IsOfUpdate s × IsRest n s.left × (s.read ≡ []) × (n ≤ length w.update)
 
   -- Invariant of a run on its way to the installation of the update.
   abbrev OnTrack : ℕ → Operation → State → Type 0
@@ -62,8 +62,8 @@ module _ (w : World) (o : Options) (g : IsGoodUpdate w o) where
   OnTrack n fsm.RemoveLeftovers s = IsReady n s
   OnTrack n fsm.CreateFile s = IsReady n s
   OnTrack n fsm.CopyData s = IsReady n s
-  OnTrack n fsm.ReadBack s = StateKnows s × ((rest : List ℕ) × (s.read ++ rest ≡ w.update))
-  OnTrack n fsm.CheckData s = StateKnows s × (s.read ≡ w.update)
+  OnTrack n fsm.ReadBack s = IsOfUpdate s × ((rest : List ℕ) × (s.read ++ rest ≡ w.update))
+  OnTrack n fsm.CheckData s = IsOfUpdate s × (s.read ≡ w.update)
   OnTrack n fsm.SetPermissions s = ⊤
   OnTrack n fsm.SyncFile s = ⊤
   OnTrack n fsm.CreateRecord s = ⊤
@@ -80,9 +80,10 @@ module _ (w : World) (o : Options) (g : IsGoodUpdate w o) where
   abbrev Stays : ℕ → Operation → Event → State → Type 0
   Stays n op e s = IfSome (after op e s) (λ t. OnTrack (count n e) t.due t)
 
-  left_at : (n : ℕ) (size : Option ℕ) → n ≡ 0 → ((k : ℕ) → size ≡ Some k → length w.update ≡ k) → Left n size
-  left_at n None none is = tt
-  left_at n (Some k) none is = omega (arith, none, is k refl)
+  rest_at_start : (n : ℕ) (size : Option ℕ) → n ≡ 0 → ((k : ℕ) → size ≡ Some k → length w.update ≡ k)
+      → IsRest n size
+  rest_at_start n None none is = tt
+  rest_at_start n (Some k) none is = omega (arith, none, is k refl)
 
   is_newer : (r : Option ℕ) (v : ℕ) → ((k : ℕ) → r ≡ Some k → k < v)
       → (not (is_some r) || is_below r (Some v)) ≡ true
@@ -101,11 +102,13 @@ module _ (w : World) (o : Options) (g : IsGoodUpdate w o) where
       rw (is_o, is ∙ g.parsed, g.passed, recorded)
       (refl, none, refl, fine, ap (λ v. unwrap_or v 0) g.numbered, refl, refl, refl, g.signed_comment)
 
-  first : (n : ℕ) (b : Bool) (x y : State) → b ≡ true → OnTrack n x.due x
+  -- A conditional whose condition is true takes its first branch.
+  takes_first : (n : ℕ) (b : Bool) (x y : State) → b ≡ true → OnTrack n x.due x
       → OnTrack n (if b then x else y).due (if b then x else y)
-  first n true x y is on = on
-  first n false x y is on = absurd (true≢false (sym is))
+  takes_first n true x y is on = on
+  takes_first n false x y is on = absurd (true≢false (sym is))
 
+  -- The operation after `install`, in a check and in an installation.
   to_install : (n : ℕ) (check : Bool) (s : State) → check ≡ false → IsReady n (fsm.install s)
       → OnTrack n (if check then fsm.WouldInstall else fsm.RemoveLeftovers) (fsm.install s)
   to_install n true s is ready = absurd (true≢false is)
@@ -117,19 +120,20 @@ module _ (w : World) (o : Options) (g : IsGoodUpdate w o) where
       let newer : fsm.is_newer s ≡ true =
       rw (recorded, version) (is_newer g.recorded.version g.version g.newer) in
       let installs : s.options.check ≡ false = ap (λ (x : Options). x.check) is_o ∙ g.installs in
-      first n (fsm.is_newer s) (fsm.install s) _ newer
+      takes_first n (fsm.is_newer s) (fsm.install s) _ newer
       (to_install n s.options.check s installs (
         (signature, key, is_o, listing),
-        rw left (left_at n (signed_size o.list g.text.comments.trusted) none g.sized),
+        rw left (rest_at_start n (signed_size o.list g.text.comments.trusted) none g.sized),
         refl,
         omega (arith, none),
       ))
 
-  list_next : (listed : Bool) (n : ℕ) (s : State) → is_some o.list ≡ listed → IsAccepted n s
+  -- The comment is accepted. The list is due next, if there is one.
+  list_or_compare : (listed : Bool) (n : ℕ) (s : State) → is_some o.list ≡ listed → IsAccepted n s
       → OnTrack n (if listed then fsm.go fsm.ReadList s else fsm.compare s).due
       (if listed then fsm.go fsm.ReadList s else fsm.compare s)
-  list_next true n s some known = (known, some)
-  list_next false n s none known = compare n s known (λ some. absurd (true≢false (sym some ∙ none)))
+  list_or_compare true n s some known = (known, some)
+  list_or_compare false n s none known = compare n s known (λ some. absurd (true≢false (sym some ∙ none)))
 
   after_comment : (n : ℕ) (s : State) → OnTrack n fsm.CheckComment s
       → IsTrueEvent w n s fsm.CheckComment (Answered true) → Stays n fsm.CheckComment (Answered true) s
@@ -138,7 +142,7 @@ module _ (w : World) (o : Options) (g : IsGoodUpdate w o) where
       let key = signer_is w g.text g.key s.signers (rw (signature, second) at accepted) signer in
       let signed : State = record s { is_signed = true } in
       subst (λ f. OnTrack n (fsm.after_comment f signed).due (fsm.after_comment f signed)) (sym fault)
-      (list_next (is_some s.options.list) n signed (ap (λ (x : Options). is_some x.list) (sym is_o))
+      (list_or_compare (is_some s.options.list) n signed (ap (λ (x : Options). is_some x.list) (sym is_o))
       (is_o, none, recorded, version, signature, key, left))
 
   after_listing : (n : ℕ) (s : State) → OnTrack n fsm.CheckList s
@@ -164,36 +168,37 @@ module _ (w : World) (o : Options) (g : IsGoodUpdate w o) where
       let found = rw (sym rejected) at signer in
       rw at (is_o, none, recorded, fault, version, signature, second, left, found)
 
-  after_piece : (n k : ℕ) (s : State) (left : Option ℕ) → s.due ≡ fsm.CopyData → StateKnows s → Left n left
+  after_piece : (n k : ℕ) (s : State) (left : Option ℕ) → s.due ≡ fsm.CopyData → IsOfUpdate s → IsRest n left
       → s.left ≡ left → s.read ≡ [] → n + k ≤ length w.update
       → OnTrack (n + k) (fsm.after_piece k left s).due (fsm.after_piece k left s)
   after_piece n k s None at knows is none read more = rw (at, none) (knows, tt, read, more)
   after_piece n k s (Some left) at knows is none read more =
       rw (le-leb k left (omega (arith, is, more)), at) (knows, omega (arith, is, more), read, more)
 
-  after_copy : (n : ℕ) (s : State) (left : Option ℕ) → StateKnows s → Left n left → s.read ≡ []
+  after_copy : (n : ℕ) (s : State) (left : Option ℕ) → IsOfUpdate s → IsRest n left → s.read ≡ []
       → n ≡ length w.update
       → OnTrack n (fsm.after_copy left s).due (fsm.after_copy left s)
   after_copy n s None knows is read all = (knows, (w.update, rw read refl))
   after_copy n s (Some left) knows is read all =
       rw (eq-eqb left 0 (omega (arith, is, all))) (knows, (w.update, rw read refl))
 
-  check_data : {P : Type 0} (s : State) → StateKnows s × (s.read ≡ w.update)
+  -- Ed25519 does not reject the signature for the data, because the update is signed.
+  data_not_rejected : {P : Type 0} (s : State) → IsOfUpdate s × (s.read ≡ w.update)
       → false ≡ w.accepts (signed_digest s) (key_of s.signers) s.signature → P
-  check_data s ((signature, key, same, listing), read) rejected =
+  data_not_rejected s ((signature, key, same, listing), read) rejected =
       let wrong = rw (digest_is w o s same listing, key, signature) at rejected in
       absurd (true≢false (sym g.signed_data ∙ sym (rw read at wrong)))
 
-  after_data : (n : ℕ) (s : State) → StateKnows s × (s.read ≡ w.update)
+  after_data : (n : ℕ) (s : State) → IsOfUpdate s × (s.read ≡ w.update)
       → OnTrack n (fsm.after_data (fsm.is_listed s) s).due (fsm.after_data (fsm.is_listed s) s)
   after_data n s ((signature, key, same, listing), read) =
       let fits : fsm.is_listed s ≡ true =
       listed_is w o s same listing ∙ ap (fits_list o.list w.list w.name) read ∙ g.listed in
       rw fits tt
 
-  check_list : {P : Type 0} (n : ℕ) (s : State) → OnTrack n fsm.CheckList s
+  list_not_rejected : {P : Type 0} (n : ℕ) (s : State) → OnTrack n fsm.CheckList s
       → false ≡ w.accepts (signed_digest s) (key_of s.signers) s.signature → P
-  check_list n s ((same, none, recorded, version, signature, key, left), some, listing) rejected =
+  list_not_rejected n s ((same, none, recorded, version, signature, key, left), some, listing) rejected =
       let wrong = rw (
         digest_is w o s same listing,
         same_digest o.list w.list s.read w.update some,
@@ -203,6 +208,7 @@ module _ (w : World) (o : Options) (g : IsGoodUpdate w o) where
       at rejected in
       absurd (true≢false (sym g.signed_data ∙ sym wrong))
 
+  -- An operation keeps the invariant.
   op_keeps : (n : ℕ) (op : Operation) (e : Event) (s : State) → s.due ≡ op → OnTrack n op s → IsAcceptable g e
       → IsTrueEvent w n s op e → Stays n op e s
   op_keeps n op (Failed f) s at on fine is = absurd fine
@@ -226,7 +232,7 @@ module _ (w : World) (o : Options) (g : IsGoodUpdate w o) where
   op_keeps n fsm.ReadList (ListRead list name) s at (known, some) fine is =
       (known, some, λ listed. rw (ap (λ (x : Options). x.list) known.0, is.0, is.1) refl)
   op_keeps n fsm.CheckList (Answered true) s at on fine is = after_listing n s on
-  op_keeps n fsm.CheckList (Answered false) s at on fine is = check_list n s on is
+  op_keeps n fsm.CheckList (Answered false) s at on fine is = list_not_rejected n s on is
   op_keeps n fsm.ReadList e s at on fine is = tt
   op_keeps n fsm.CheckList e s at on fine is = tt
   op_keeps n fsm.CopyData (PieceCopied k) s at (knows, left, read, more) fine is =
@@ -236,37 +242,41 @@ module _ (w : World) (o : Options) (g : IsGoodUpdate w o) where
   op_keeps n fsm.ReadBack (PieceRead bytes) s at (knows, rest) fine is = rw at (knows, is.1)
   op_keeps n fsm.ReadBack Done s at (knows, rest) fine is = (knows, is)
   op_keeps n fsm.CheckData (Answered true) s at on fine is = after_data n s on
-  op_keeps n fsm.CheckData (Answered false) s at on fine is = check_data s on is
+  op_keeps n fsm.CheckData (Answered false) s at on fine is = data_not_rejected s on is
   op_keeps n fsm.Lock Done s at on fine is = on
   op_keeps n fsm.RemoveLeftovers Done s at on fine is = on
   op_keeps n fsm.CreateFile Done s at on fine is = on
   op_keeps n op Done s at on fine is = tt
   op_keeps n op e s at on fine is = tt
 
+  -- The invariant holds for the state that `step` returns, if the event fits.
   answer_keeps : (n : ℕ) (e : Event) (s : State) (next : Option State) → is_some next ≡ true
       → IfSome next (λ t. OnTrack (count n e) t.due t)
       → OnTrack (count n e) (answer s next).1.due (answer s next).1
   answer_keeps n e s (Some t) fits stays = stays
   answer_keeps n e s None fits stays = absurd (true≢false (sym fits))
 
+  -- The invariant holds when a run begins.
   begins : (check : Bool) → OnTrack 0 (if check then fsm.ReadRecord else fsm.Lock) (begin o)
   begins true = (refl, refl)
   begins false = (refl, refl)
 
-  stays_on : (n : ℕ) (s : State) (events : List Event) (t : State) → OnTrack n s.due s
+  -- The invariant holds after a run that starts in a state in which it holds.
+  invariant_after : (n : ℕ) (s : State) (events : List Event) (t : State) → OnTrack n s.due s
       → IsRun (λ n s e. IsLawfulEvent w n s e × IsAcceptable g e) n s events t → (m : ℕ) × OnTrack m t.due t
-  stays_on n s [] t on is = (n, rw is on)
-  stays_on n s (e ∷ more) t on (((fits, is), fine), rest) =
-      stays_on (count n e) (step s e).1 more t
+  invariant_after n s [] t on is = (n, rw is on)
+  invariant_after n s (e ∷ more) t on (((fits, is), fine), rest) =
+      invariant_after (count n e) (step s e).1 more t
       (answer_keeps n e s (after s.due e s) fits (op_keeps n s.due e s refl on fine is)) rest
 
-  installed : (n : ℕ) (op : Operation) (s : State) → OnTrack n op s → has_ended op ≡ true
+  -- A run on its way to the installation ends with it.
+  ends_installed : (n : ℕ) (op : Operation) (s : State) → OnTrack n op s → has_ended op ≡ true
       → op ≡ fsm.Installed
-  installed n fsm.Installed s on ended = refl
-  installed n fsm.WouldInstall s on ended = absurd on
-  installed n fsm.AlreadyInstalled s on ended = absurd on
-  installed n fsm.Rejected s on ended = absurd on
-  installed n op s on ended = absurd (true≢false (sym ended))
+  ends_installed n fsm.Installed s on ended = refl
+  ends_installed n fsm.WouldInstall s on ended = absurd on
+  ends_installed n fsm.AlreadyInstalled s on ended = absurd on
+  ends_installed n fsm.Rejected s on ended = absurd on
+  ends_installed n op s on ended = absurd (true≢false (sym ended))
 
   -- Both results of Ed25519 fit the question about the comment.
   fits_comment : (s : State) (accepted : Bool)
@@ -288,6 +298,7 @@ module _ (w : World) (o : Options) (g : IsGoodUpdate w o) where
   HasEvent n op s =
       (e : Event) × (is_some (after op e s) ≡ true) × IsTrueEvent w n s op e × IsAcceptable g e
 
+  -- While data is copied, there is a lawful event: the next piece, or the end of the data.
   next_piece : (n : ℕ) (s : State) → n ≤ length w.update → HasEvent n fsm.CopyData s
   next_piece n s more = elim (eq-or-lt_of_le more) [
     | inl all ↦ (Done, refl, all, tt)
@@ -311,20 +322,21 @@ module _ (w : World) (o : Options) (g : IsGoodUpdate w o) where
     has_event n fsm.ReadSignature s on = inr (SignatureRead w.text time, refl, refl, fresh)
     has_event n fsm.CheckComment s on =
         inr (
-          Answered (says_yes w (comment_question s g.text.comments.trusted)),
+          Answered (accepts_question w (comment_question s g.text.comments.trusted)),
           fits_comment s _,
-          λ t parsed. ap (λ x. says_yes w (comment_question s x.comments.trusted)) (same_text t parsed),
+          λ t parsed. ap (λ x. accepts_question w (comment_question s x.comments.trusted))
+              (same_text t parsed),
           tt,
         )
     has_event n fsm.ReadList s on = inr (ListRead w.list w.name, refl, (refl, refl), tt)
     has_event n fsm.CheckList s on =
-        inr (Answered (says_yes w (data_question fsm.CheckList s)), fits_listing s _, refl, tt)
+        inr (Answered (accepts_question w (data_question fsm.CheckList s)), fits_listing s _, refl, tt)
     has_event n fsm.RemoveLeftovers s on = inr (Done, refl, tt, tt)
     has_event n fsm.CreateFile s on = inr (Done, refl, tt, tt)
     has_event n fsm.CopyData s (knows, left, read, more) = inr (next_piece n s more)
     has_event n fsm.ReadBack s (knows, (rest, whole)) = inr (next_bytes n s rest whole)
     has_event n fsm.CheckData s on =
-        inr (Answered (says_yes w (data_question fsm.CheckData s)), fits_data s _, refl, tt)
+        inr (Answered (accepts_question w (data_question fsm.CheckData s)), fits_data s _, refl, tt)
     has_event n fsm.SetPermissions s on = inr (Done, refl, tt, tt)
     has_event n fsm.SyncFile s on = inr (Done, refl, tt, tt)
     has_event n fsm.CreateRecord s on = inr (Done, refl, tt, tt)
@@ -360,8 +372,8 @@ pub good_update_gets_installed : (w : World) (o : Options) (g : IsGoodUpdate w o
     (t : State)
     → IsGoodRun g events t → has_ended t.due ≡ true → t.due ≡ fsm.Installed
 good_update_gets_installed w o g events t run ended =
-    let (n, on) = stays_on w o g 0 (begin o) events t (begins w o g o.check) run in
-    installed w o g n t.due t on ended
+    let (n, on) = invariant_after w o g 0 (begin o) events t (begins w o g o.check) run in
+    ends_installed w o g n t.due t on ended
 
 -- If the comment is not rejected at some time, there is a run without failures that installs the good update.
 pub good_update_has_run : (w : World) (o : Options) (g : IsGoodUpdate w o) (time : Option ℕ)

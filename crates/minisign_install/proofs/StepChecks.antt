@@ -15,11 +15,14 @@ use Rattle.minisign_install.proofs.StepSafety.{Passed}
 use Rattle.minisign_lists.specs.declared.digests.ListedDigest.{ListedDigest}
 use Rattle.minisign_install.specs.Step.{ListRead}
 
-pick : (is : Bool) (x y : State) (x' y' : State) → x' ≡ as_check x → y' ≡ as_check y
+-- A check decides as an installation does in a conditional, if it does so in both branches.
+both_branches : (is : Bool) (x y : State) (x' y' : State) → x' ≡ as_check x → y' ≡ as_check y
     → (if is then x' else y') ≡ as_check (if is then x else y)
-pick true x y x' y' one other = one
-pick false x y x' y' one other = other
+both_branches true x y x' y' one other = one
+both_branches false x y x' y' one other = other
 
+-- The next lemmas say that the functions in Step.antt that choose the next state have the same result for a
+-- check and for an installation.
 record_same : (s : State) (r : Result Recorded InstallFault) → s.due ≡ fsm.ReadRecord
     → fsm.after_record r (as_check s) ≡ as_check (fsm.after_record r s)
 record_same s (Ok recorded) at = refl
@@ -35,15 +38,16 @@ install_same s installs = rw installs refl
 
 compare_same : (s : State) → s.options.check ≡ false → fsm.compare (as_check s) ≡ as_check (fsm.compare s)
 compare_same s installs =
-    pick (fsm.is_newer s) _ _ _ _ (install_same s installs)
-    (pick (is_some s.recorded.digest) _ _ _ _ refl
-    (pick (fsm.is_rolling_back s) _ _ _ _ (install_same s installs) refl))
+    both_branches (fsm.is_newer s) _ _ _ _ (install_same s installs)
+    (both_branches (is_some s.recorded.digest) _ _ _ _ refl
+    (both_branches (fsm.is_rolling_back s) _ _ _ _ (install_same s installs) refl))
 
 comment_same : (s : State) (fault : Option InstallFault) → s.due ≡ fsm.CheckComment → s.options.check ≡ false
     → fsm.after_comment fault (record (as_check s) { is_signed = true })
     ≡ as_check (fsm.after_comment fault (record s { is_signed = true }))
 comment_same s None at installs =
-    pick (is_some s.options.list) _ _ _ _ refl (compare_same (record s { is_signed = true }) installs)
+    both_branches (is_some s.options.list) _ _ _ _ refl
+    (compare_same (record s { is_signed = true }) installs)
 comment_same s (Some fault) at installs = rw at refl
 
 listing_same : (s : State) (listed : Result ListedDigest InstallFault) → s.due ≡ fsm.CheckList
@@ -61,40 +65,41 @@ key_same s (v ∷ u ∷ more) at = refl
 digest_same : (s : State) (accepted : Bool) → s.options.check ≡ false
     → fsm.after_digest accepted (as_check s) ≡ as_check (fsm.after_digest accepted s)
 digest_same s true installs = refl
-digest_same s false installs = pick (fsm.is_rolling_back s) _ _ _ _ (install_same s installs) refl
+digest_same s false installs = both_branches (fsm.is_rolling_back s) _ _ _ _ (install_same s installs) refl
 
 target_same : (s : State) (accepted : Bool) → s.due ≡ fsm.CheckTarget → s.options.check ≡ false
     → fsm.after_target accepted (as_check s) ≡ as_check (fsm.after_target accepted s)
 target_same s true at installs = rw installs refl
 target_same s false at installs =
-    pick (s.is_recorded || s.options.again) (fsm.install s) (fsm.reject SameNumber s) _ _
+    both_branches (s.is_recorded || s.options.again) (fsm.install s) (fsm.reject SameNumber s) _ _
     (install_same s installs) (rw at refl)
 
-choose : (is : Bool) (x y : State) → y ≡ as_check x
+both_or_none : (is : Bool) (x y : State) → y ≡ as_check x
     → (if is then Some y else None) ≡ option_map as_check (if is then Some x else None)
-choose true x y same = ap (λ (t : State). Some t) same
-choose false x y same = refl
+both_or_none true x y same = ap (λ (t : State). Some t) same
+both_or_none false x y same = refl
 
 fail_same : (op : Operation) (f : NamedFault) (s : State) → s.due ≡ op → decides op ≡ true
     → fsm.fail f (as_check s) ≡ option_map as_check (fsm.fail f s)
-fail_same fsm.ReadRecord f s at is = choose (fsm.is_failure f) (fsm.reject (fsm.failure s.due f) s) _
+fail_same fsm.ReadRecord f s at is = both_or_none (fsm.is_failure f) (fsm.reject (fsm.failure s.due f) s) _
     (rw at refl)
-fail_same fsm.ReadSignature f s at is = choose (fsm.is_failure f) (fsm.reject (fsm.failure s.due f) s) _
+fail_same fsm.ReadSignature f s at is = both_or_none (fsm.is_failure f) (fsm.reject (fsm.failure s.due f) s) _
     (rw at refl)
-fail_same fsm.CheckComment f s at is = choose (fsm.is_failure f) (fsm.reject (fsm.failure s.due f) s) _
+fail_same fsm.CheckComment f s at is = both_or_none (fsm.is_failure f) (fsm.reject (fsm.failure s.due f) s) _
     (rw at refl)
-fail_same fsm.ReadList f s at is = choose (fsm.is_failure f) (fsm.reject (fsm.failure s.due f) s) _
+fail_same fsm.ReadList f s at is = both_or_none (fsm.is_failure f) (fsm.reject (fsm.failure s.due f) s) _
     (rw at refl)
-fail_same fsm.CheckList f s at is = choose (fsm.is_failure f) (fsm.reject (fsm.failure s.due f) s) _
+fail_same fsm.CheckList f s at is = both_or_none (fsm.is_failure f) (fsm.reject (fsm.failure s.due f) s) _
     (rw at refl)
-fail_same fsm.CheckRecord f s at is = choose (fsm.is_failure f) (fsm.reject (fsm.failure s.due f) s) _
+fail_same fsm.CheckRecord f s at is = both_or_none (fsm.is_failure f) (fsm.reject (fsm.failure s.due f) s) _
     (rw at refl)
-fail_same fsm.ReadTarget f s at is = choose (fsm.is_failure f) (fsm.reject (fsm.failure s.due f) s) _
+fail_same fsm.ReadTarget f s at is = both_or_none (fsm.is_failure f) (fsm.reject (fsm.failure s.due f) s) _
     (rw at refl)
-fail_same fsm.CheckTarget f s at is = choose (fsm.is_failure f) (fsm.reject (fsm.failure s.due f) s) _
+fail_same fsm.CheckTarget f s at is = both_or_none (fsm.is_failure f) (fsm.reject (fsm.failure s.due f) s) _
     (rw at refl)
 fail_same op f s at is = absurd (true≢false (sym is))
 
+-- After each event, the check is in the state of the installation, as a check.
 same_after : (op : Operation) (e : Event) (s : State) → s.due ≡ op → decides op ≡ true
     → s.options.check ≡ false → after op e (as_check s) ≡ option_map as_check (after op e s)
 same_after fsm.ReadRecord (Failed f) s at is installs = fail_same fsm.ReadRecord f s at is

@@ -55,15 +55,18 @@ rank op = 0
 abbrev Passed : Type 0
 Passed = Result (SignatureTextRecord × List PublicKeyValue) Fault
 
+-- The number of keys that a result contains, or 0 if it is an error.
 abbrev key_count : Passed → ℕ
 key_count (Ok (t, signers)) = length signers
 key_count (Err e) = 0
 
+-- A further check does not add keys to a result.
 required : (holds : Bool) (fault : NamedFault) (more : Passed) (m : ℕ) → key_count more ≤ m
     → key_count (require holds fault more) ≤ m
 required true fault more m few = few
 required false fault more m few = omega arith
 
+-- The checks do not return more keys than were given.
 few_keys : (o : Options) (signers : List PublicKeyValue) (t : SignatureTextRecord)
     → key_count (judge_keys o signers t) ≤ length signers
 few_keys o [] t = omega arith
@@ -74,6 +77,7 @@ few_keys o (v ∷ more) t =
     (require (has_whole_signature t.comments) named.CommentSignatureRefused passed) _
     (required (has_whole_signature t.comments) named.CommentSignatureRefused passed _ same)
 
+-- Filtering a list of keys does not make it longer.
 filter_few : (p : PublicKeyValue → Bool) (keys : List PublicKeyValue) → length (filter p keys) ≤ length keys
 filter_few p [] = omega arith
 filter_few p (v ∷ more) = elim (p v) as (λ b. length
@@ -144,25 +148,29 @@ module _ (w : World) where
   copy_left n fsm.Rejected s = 0
   copy_left n op s = length w.update + length w.update
 
+  -- The maximum number of events that are left.
   abbrev pub left : ℕ → Operation → State → ℕ
   left n op s = rank op + list_left op s + keys_left op s + target_left op s + copy_left n op s
 
-  removal : (n : ℕ) (is : Bool) (s : State)
+  -- After an error, the run removes its temporary files, or it has ended.
+  after_rejection : (n : ℕ) (is : Bool) (s : State)
       → left n (if is then fsm.RemoveFiles else fsm.Rejected) s ≤ 1
-  removal n true s = omega arith
-  removal n false s = omega arith
+  after_rejection n true s = omega arith
+  after_rejection n false s = omega arith
 
   -- After a rejection, at most one operation is left: removing the temporary files.
   reject : (n m : ℕ) (fault : InstallFault) (s : State) → 1 < m
       → left n (fsm.reject fault s).due (fsm.reject fault s) < m
-  reject n m fault s more = let few = removal n (has_files s.due) (fsm.reject fault s) in omega
+  reject n m fault s more = let few = after_rejection n (has_files s.due) (fsm.reject fault s) in omega
       (arith, few, more)
 
-  either : (n m : ℕ) (is : Bool) (s t : State) → left n s.due s < m → left n t.due t < m
+  -- The result of a conditional has the property if both branches have it.
+  both_branches : (n m : ℕ) (is : Bool) (s t : State) → left n s.due s < m → left n t.due t < m
       → left n (if is then s else t).due (if is then s else t) < m
-  either n m true s t one other = one
-  either n m false s t one other = other
+  both_branches n m true s t one other = one
+  both_branches n m false s t one other = other
 
+  -- The operation after `install`, in a check and in an installation.
   to_install : (n m : ℕ) (check : Bool) (s : State) → 16 + length w.update + length w.update < m
       → left n (if check then fsm.WouldInstall else fsm.RemoveLeftovers) s < m
   to_install n m true s more = omega (arith, more)
@@ -172,6 +180,7 @@ module _ (w : World) where
       → left n (fsm.install s).due (fsm.install s) < m
   install n m s more = to_install n m s.options.check (fsm.install s) more
 
+  -- Nothing has to be proved if the event does not fit.
   holds_if_some : (n m : ℕ) (is : Bool) (t : State) → left n t.due t < m
       → IfSome (if is then Some t else None) (λ x. left n x.due x < m)
   holds_if_some n m true t holds = holds
@@ -190,20 +199,22 @@ module _ (w : World) where
   compare : (n m : ℕ) (s : State) → 19 + w.max_size + length w.update + length w.update < m
       → left n (fsm.compare s).due (fsm.compare s) < m
   compare n m s more =
-      either n m (fsm.is_newer s) _ _ (install n m s (omega (arith, more)))
-      (either n m (is_some s.recorded.digest) _ _ (omega (arith, more))
-      (either n m (fsm.is_rolling_back s) _ _ (install n m s (omega (arith, more))) (omega (arith, more))))
+      both_branches n m (fsm.is_newer s) _ _ (install n m s (omega (arith, more)))
+      (both_branches n m (is_some s.recorded.digest) _ _ (omega (arith, more))
+      (both_branches n m (fsm.is_rolling_back s) _ _ (install n m s (omega (arith, more)))
+      (omega (arith, more))))
 
-  list_next : (n : ℕ) (listed : Bool) (s : State) → is_some s.options.list ≡ listed
+  -- The comment is accepted. The list is due next, if there is one.
+  list_or_compare : (n : ℕ) (listed : Bool) (s : State) → is_some s.options.list ≡ listed
       → left n (if listed then fsm.go fsm.ReadList s else fsm.compare s).due
       (if listed then fsm.go fsm.ReadList s else fsm.compare s) < left n fsm.CheckComment s
-  list_next n true s some = rw some (omega arith)
-  list_next n false s none = compare n _ s (omega arith)
+  list_or_compare n true s some = rw some (omega arith)
+  list_or_compare n false s none = compare n _ s (omega arith)
 
   after_comment : (n : ℕ) (s : State) (fault : Option InstallFault)
       → left n (fsm.after_comment fault (record s { is_signed = true })).due
       (fsm.after_comment fault (record s { is_signed = true })) < left n fsm.CheckComment s
-  after_comment n s None = list_next n (is_some s.options.list) (record s { is_signed = true }) refl
+  after_comment n s None = list_or_compare n (is_some s.options.list) (record s { is_signed = true }) refl
   after_comment n s (Some fault) = reject n _ fault (record s { is_signed = true }) (omega arith)
 
   next_key : (n : ℕ) (s : State) (signers : List PublicKeyValue) → s.due ≡ fsm.CheckComment
@@ -227,7 +238,8 @@ module _ (w : World) where
   after_digest : (n : ℕ) (s : State) (accepted : Bool)
       → left n (fsm.after_digest accepted s).due (fsm.after_digest accepted s) < left n fsm.CheckRecord s
   after_digest n s accepted =
-      either n _ (not accepted && fsm.is_rolling_back s) _ _ (install n _ s (omega arith)) (omega arith)
+      both_branches n _ (not accepted && fsm.is_rolling_back s) _ _ (install n _ s (omega arith))
+      (omega arith)
 
   target_is_update : (n : ℕ) (check : Bool) (s t : State)
       → left n (if check then fsm.AlreadyInstalled else fsm.SyncTarget) t < left n fsm.CheckTarget s
@@ -238,7 +250,7 @@ module _ (w : World) where
       → left n (fsm.after_target accepted s).due (fsm.after_target accepted s) < left n fsm.CheckTarget s
   after_target n s true = target_is_update n s.options.check s (fsm.after_target true s)
   after_target n s false =
-      either n _ (s.is_recorded || s.options.again) _ _ (install n _ s (omega arith))
+      both_branches n _ (s.is_recorded || s.options.again) _ _ (install n _ s (omega arith))
       (reject n _ _ s (omega arith))
 
   after_piece : (n k : ℕ) (s : State) (rest : Option ℕ) → s.due ≡ fsm.CopyData → 0 < k
@@ -246,13 +258,13 @@ module _ (w : World) where
       → left (n + k) (fsm.after_piece k rest s).due (fsm.after_piece k rest s) < left n fsm.CopyData s
   after_piece n k s None at some fits = rw at (omega (arith, some, fits))
   after_piece n k s (Some rest) at some fits =
-      either (n + k) _ (nat_le k rest) _ _ (rw at (omega (arith, some, fits))) (reject (n + k) _ _ s
+      both_branches (n + k) _ (nat_le k rest) _ _ (rw at (omega (arith, some, fits))) (reject (n + k) _ _ s
       (omega arith))
 
   after_copy : (n : ℕ) (s : State) (rest : Option ℕ)
       → left n (fsm.after_copy rest s).due (fsm.after_copy rest s) < left n fsm.CopyData s
   after_copy n s None = omega arith
-  after_copy n s (Some rest) = either n _ (rest == 0) _ _ (omega arith) (reject n _ _ s (omega arith))
+  after_copy n s (Some rest) = both_branches n _ (rest == 0) _ _ (omega arith) (reject n _ _ s (omega arith))
 
   decreases : (n : ℕ) (op : Operation) (e : Event) (s : State) → s.due ≡ op → IsTrueEvent w n s op e
       → IfSome (after op e s) (λ t. left (count n e) t.due t < left n op s)
@@ -310,12 +322,14 @@ module _ (w : World) where
   decreases n op Done s at is = omega arith
   decreases n op e s at is = tt
 
+  -- The invariant holds for the state that `step` returns, if the event fits.
   answer_keeps : (n m : ℕ) (e : Event) (s : State) (next : Option State) → is_some next ≡ true
       → IfSome next (λ t. left (count n e) t.due t < m)
       → left (count n e) (answer s next).1.due (answer s next).1 < m
   answer_keeps n m e s (Some t) fits less = less
   answer_keeps n m e s None fits less = absurd (true≢false (sym fits))
 
+  -- A lawful event decreases this number.
   pub step_less : (n : ℕ) (e : Event) (s : State) → IsLawfulEvent w n s e
       → left (count n e) (step s e).1.due (step s e).1 < left n s.due s
   step_less n e s (fits, is) = answer_keeps n _ e s (after s.due e s) fits (decreases n s.due e s refl is)

@@ -1,4 +1,4 @@
--- An example of a good update, so that the laws about good updates are not empty.
+-- An example of a good update, which shows that the laws about good updates do not hold vacuously.
 use Rattle.std.specs.Prelude.{◌≡◌, ◌<◌, ℕ, true, false, List, [], ◌∷◌, ◌++◌, codes, replicate, Option, Some}
 use Rattle.std.specs.Prelude.{None, Ok}
 use Rattle.std.specs.Str.{chars, is_utf8}
@@ -13,6 +13,8 @@ use Rattle.minisign_install.specs.Decisions.{Options, comment_fault, judge_text}
 use Rattle.minisign_install.specs.RecordTexts.{record_digest, record_key}
 use Rattle.minisign_install.specs.StepRuns.{IsGoodUpdate, World}
 
+-- Any key serves as an example, because the world below accepts every signature, and the checks only compare
+-- key IDs. So the key ID has one byte, and the mark is 0.
 abbrev key : PublicKeyValue
 key = record { mark = 0; key = replicate 32 0; key_id = 1 ∷ [] }
 
@@ -45,7 +47,7 @@ signature_file = record {
 abbrev recorded_2 : List ℕ
 recorded_2 = codes "version:2" ++ 10 ∷ replicate 64 48 ++ 10 ∷ replicate 128 50
 
--- The scheme accepts every signature, and the data is one byte.
+-- The scheme accepts every signature, and the data is one byte. The update is newer than the record.
 abbrev world : World
 world = record {
   accepts = λ message key signature. true;
@@ -85,7 +87,7 @@ good = record {
   version = 3;
   numbered = refl;
   newer = newer_than_2;
-  sized = λ size says. absurd (none-some size says);
+  sized = λ size signed. absurd (none-some size signed);
 }
 
 pub good_update_exists : (w : World) × (o : Options) × (g : IsGoodUpdate w o) × (time : Option ℕ)

@@ -21,83 +21,89 @@ abbrev OwnsNone : Owned → Type 0
 OwnsNone d = (d.data_file ≡ false) × (d.record_file ≡ false)
 
 -- The temporary files that a run may own at each operation.
-abbrev Owns : Operation → Owned → Type 0
-Owns fsm.CopyData d = d.record_file ≡ false
-Owns fsm.ReadBack d = d.record_file ≡ false
-Owns fsm.CheckData d = d.record_file ≡ false
-Owns fsm.SetPermissions d = d.record_file ≡ false
-Owns fsm.SyncFile d = d.record_file ≡ false
-Owns fsm.CreateRecord d = d.record_file ≡ false
-Owns fsm.WriteRecord d = ⊤
-Owns fsm.SyncRecord d = ⊤
-Owns fsm.RenameRecord d = ⊤
-Owns fsm.SyncRecordName d = d.record_file ≡ false
-Owns fsm.RenameFile d = d.record_file ≡ false
-Owns fsm.RemoveFiles d = ⊤
-Owns op d = OwnsNone d
+abbrev MayOwn : Operation → Owned → Type 0
+MayOwn fsm.CopyData d = d.record_file ≡ false
+MayOwn fsm.ReadBack d = d.record_file ≡ false
+MayOwn fsm.CheckData d = d.record_file ≡ false
+MayOwn fsm.SetPermissions d = d.record_file ≡ false
+MayOwn fsm.SyncFile d = d.record_file ≡ false
+MayOwn fsm.CreateRecord d = d.record_file ≡ false
+MayOwn fsm.WriteRecord d = ⊤
+MayOwn fsm.SyncRecord d = ⊤
+MayOwn fsm.RenameRecord d = ⊤
+MayOwn fsm.SyncRecordName d = d.record_file ≡ false
+MayOwn fsm.RenameFile d = d.record_file ≡ false
+MayOwn fsm.RemoveFiles d = ⊤
+MayOwn op d = OwnsNone d
 
 -- The run owns only temporary files that it may own in this state.
-abbrev Holds : Owned → State → Type 0
-Holds d s = Owns s.due d
+abbrev StateInvariant : Owned → State → Type 0
+StateInvariant d s = MayOwn s.due d
 
 -- If a run is rejected, it removes the temporary files that it has.
-rejected : (op : Operation) (d : Owned) → (op ≡ fsm.RemoveFiles → ⊥) → Owns op d
-    → Owns (if has_files op then fsm.RemoveFiles else fsm.Rejected) d
-rejected fsm.CopyData d other is = tt
-rejected fsm.ReadBack d other is = tt
-rejected fsm.CheckData d other is = tt
-rejected fsm.SetPermissions d other is = tt
-rejected fsm.SyncFile d other is = tt
-rejected fsm.CreateRecord d other is = tt
-rejected fsm.WriteRecord d other is = tt
-rejected fsm.SyncRecord d other is = tt
-rejected fsm.RenameRecord d other is = tt
-rejected fsm.SyncRecordName d other is = tt
-rejected fsm.RenameFile d other is = tt
-rejected fsm.RemoveFiles d other is = absurd (other refl)
-rejected op d other is = is
+after_rejection : (op : Operation) (d : Owned) → (op ≡ fsm.RemoveFiles → ⊥) → MayOwn op d
+    → MayOwn (if has_files op then fsm.RemoveFiles else fsm.Rejected) d
+after_rejection fsm.CopyData d other is = tt
+after_rejection fsm.ReadBack d other is = tt
+after_rejection fsm.CheckData d other is = tt
+after_rejection fsm.SetPermissions d other is = tt
+after_rejection fsm.SyncFile d other is = tt
+after_rejection fsm.CreateRecord d other is = tt
+after_rejection fsm.WriteRecord d other is = tt
+after_rejection fsm.SyncRecord d other is = tt
+after_rejection fsm.RenameRecord d other is = tt
+after_rejection fsm.SyncRecordName d other is = tt
+after_rejection fsm.RenameFile d other is = tt
+after_rejection fsm.RemoveFiles d other is = absurd (other refl)
+after_rejection op d other is = is
 
+-- The next lemmas have the names of the functions in Step.antt that choose the next state. Each proves the
+-- invariant after its function.
 reject : (op : Operation) (fault : InstallFault) (s : State) (d : Owned) → s.due ≡ op
-    → (op ≡ fsm.RemoveFiles → ⊥) → Owns op d → Holds d (fsm.reject fault s)
-reject op fault s d at other is = rw at (rejected op d other is)
+    → (op ≡ fsm.RemoveFiles → ⊥) → MayOwn op d → StateInvariant d (fsm.reject fault s)
+reject op fault s d at other is = rw at (after_rejection op d other is)
 
-either : (is : Bool) (x y : State) (d : Owned) → Holds d x → Holds d y → Holds d (if is then x else y)
-either true x y d one other = one
-either false x y d one other = other
+-- The result of a conditional has the property if both branches have it.
+both_branches : (is : Bool) (x y : State) (d : Owned) → StateInvariant d x → StateInvariant d y
+    → StateInvariant d (if is then x else y)
+both_branches true x y d one other = one
+both_branches false x y d one other = other
 
+-- The operation after `install`, in a check and in an installation.
 to_install : (check : Bool) (d : Owned) → OwnsNone d
-    → Owns (if check then fsm.WouldInstall else fsm.RemoveLeftovers) d
+    → MayOwn (if check then fsm.WouldInstall else fsm.RemoveLeftovers) d
 to_install true d is = is
 to_install false d is = is
 
-install : (s : State) (d : Owned) → OwnsNone d → Holds d (fsm.install s)
+install : (s : State) (d : Owned) → OwnsNone d → StateInvariant d (fsm.install s)
 install s d is = to_install s.options.check d is
 
-compare : (s : State) (d : Owned) → OwnsNone d → Holds d (fsm.compare s)
+compare : (s : State) (d : Owned) → OwnsNone d → StateInvariant d (fsm.compare s)
 compare s d is =
-    either (fsm.is_newer s) _ _ d (install s d is)
-    (either (is_some s.recorded.digest) _ _ d is (either (fsm.is_rolling_back s) _ _ d (install s d is) is))
+    both_branches (fsm.is_newer s) _ _ d (install s d is)
+    (both_branches (is_some s.recorded.digest) _ _ d is
+    (both_branches (fsm.is_rolling_back s) _ _ d (install s d is) is))
 
 after_record : (s : State) (r : Result Recorded InstallFault) (d : Owned) → s.due ≡ fsm.ReadRecord
-    → OwnsNone d → Holds d (fsm.after_record r s)
+    → OwnsNone d → StateInvariant d (fsm.after_record r s)
 after_record s (Ok recorded) d at is = is
 after_record s (Err fault) d at is = reject fsm.ReadRecord fault s d at (λ same. cc same) is
 
 after_signature : (s : State) (r : Passed) (time : Option ℕ) (d : Owned) → s.due ≡ fsm.ReadSignature
-    → OwnsNone d → Holds d (fsm.after_signature r time s)
+    → OwnsNone d → StateInvariant d (fsm.after_signature r time s)
 after_signature s (Ok (t, signers)) time d at is = is
 after_signature s (Err fault) time d at is = reject fsm.ReadSignature (Library fault) s d at
     (λ same. cc same) is
 
 after_comment : (s : State) (fault : Option InstallFault) (d : Owned) → s.due ≡ fsm.CheckComment
-    → OwnsNone d → Holds d (fsm.after_comment fault (record s { is_signed = true }))
+    → OwnsNone d → StateInvariant d (fsm.after_comment fault (record s { is_signed = true }))
 after_comment s None d at is =
-    either (is_some s.options.list) _ _ d is (compare (record s { is_signed = true }) d is)
+    both_branches (is_some s.options.list) _ _ d is (compare (record s { is_signed = true }) d is)
 after_comment s (Some fault) d at is =
     reject fsm.CheckComment fault (record s { is_signed = true }) d at (λ same. cc same) is
 
 next_key : (s : State) (signers : List PublicKeyValue) (d : Owned) → s.due ≡ fsm.CheckComment
-    → OwnsNone d → Holds d (fsm.next_key signers s)
+    → OwnsNone d → StateInvariant d (fsm.next_key signers s)
 next_key s [] d at is = reject fsm.CheckComment (Library (Named named.CommentSignatureRefused)) s d at
     (λ same. cc same) is
 next_key s (v ∷ []) d at is = reject fsm.CheckComment (Library
@@ -105,50 +111,53 @@ next_key s (v ∷ []) d at is = reject fsm.CheckComment (Library
 next_key s (v ∷ u ∷ more) d at is = rw at is
 
 after_listing : (s : State) (listed : Result ListedDigest InstallFault) (d : Owned) → s.due ≡ fsm.CheckList
-    → OwnsNone d → Holds d (fsm.after_listing listed s)
+    → OwnsNone d → StateInvariant d (fsm.after_listing listed s)
 after_listing s (Ok digest) d at is = compare s d is
 after_listing s (Err fault) d at is = reject fsm.CheckList fault s d at (λ same. cc same) is
 
 after_data : (s : State) (listed : Bool) (d : Owned) → s.due ≡ fsm.CheckData → d.record_file ≡ false
-    → Holds d (fsm.after_data listed s)
+    → StateInvariant d (fsm.after_data listed s)
 after_data s true d at is = is
 after_data s false d at is = reject fsm.CheckData DigestMismatch s d at (λ same. cc same) is
 
-after_digest : (s : State) (accepted : Bool) (d : Owned) → OwnsNone d → Holds d (fsm.after_digest accepted s)
+after_digest : (s : State) (accepted : Bool) (d : Owned) → OwnsNone d
+    → StateInvariant d (fsm.after_digest accepted s)
 after_digest s accepted d is =
-    either (not accepted && fsm.is_rolling_back s) _ _ d (install s d is) is
+    both_branches (not accepted && fsm.is_rolling_back s) _ _ d (install s d is) is
 
 target_is_update : (check : Bool) (d : Owned) → OwnsNone d
-    → Owns (if check then fsm.AlreadyInstalled else fsm.SyncTarget) d
+    → MayOwn (if check then fsm.AlreadyInstalled else fsm.SyncTarget) d
 target_is_update true d is = is
 target_is_update false d is = is
 
 after_target : (s : State) (accepted : Bool) (d : Owned) → s.due ≡ fsm.CheckTarget → OwnsNone d
-    → Holds d (fsm.after_target accepted s)
+    → StateInvariant d (fsm.after_target accepted s)
 after_target s true d at is = target_is_update s.options.check d is
 after_target s false d at is =
-    either (s.is_recorded || s.options.again) _ _ d (install s d is)
+    both_branches (s.is_recorded || s.options.again) _ _ d (install s d is)
     (reject fsm.CheckTarget SameNumber s d at (λ same. cc same) is)
 
 after_piece : (k : ℕ) (s : State) (left : Option ℕ) (d : Owned) → s.due ≡ fsm.CopyData
-    → d.record_file ≡ false → Holds d (fsm.after_piece k left s)
+    → d.record_file ≡ false → StateInvariant d (fsm.after_piece k left s)
 after_piece k s None d at is = rw at is
 after_piece k s (Some left) d at is =
-    either (nat_le k left) _ _ d (rw at is) (reject fsm.CopyData OtherSize s d at (λ same. cc same) is)
+    both_branches (nat_le k left) _ _ d (rw at is) (reject fsm.CopyData OtherSize s d at (λ same. cc same) is)
 
 after_copy : (s : State) (left : Option ℕ) (d : Owned) → s.due ≡ fsm.CopyData → d.record_file ≡ false
-    → Holds d (fsm.after_copy left s)
+    → StateInvariant d (fsm.after_copy left s)
 after_copy s None d at is = is
 after_copy s (Some left) d at is =
-    either (left == 0) _ _ d is (reject fsm.CopyData OtherSize s d at (λ same. cc same) is)
+    both_branches (left == 0) _ _ d is (reject fsm.CopyData OtherSize s d at (λ same. cc same) is)
 
-holds_if_some : (is : Bool) (t : State) (d : Owned) → Holds d t
-    → IfSome (if is then Some t else None) (Holds d)
+-- Nothing has to be proved if the event does not fit.
+holds_if_some : (is : Bool) (t : State) (d : Owned) → StateInvariant d t
+    → IfSome (if is then Some t else None) (StateInvariant d)
 holds_if_some true t d holds = holds
 holds_if_some false t d holds = tt
 
-op_keeps : (op : Operation) (e : Event) (s : State) (d : Owned) → s.due ≡ op → Owns op d
-    → IfSome (after op e s) (Holds (owns op e d))
+-- An operation keeps the invariant.
+op_keeps : (op : Operation) (e : Event) (s : State) (d : Owned) → s.due ≡ op → MayOwn op d
+    → IfSome (after op e s) (StateInvariant (owns op e d))
 op_keeps fsm.Nothing (Failed f) s d at is = tt
 op_keeps fsm.Installed (Failed f) s d at is = tt
 op_keeps fsm.AlreadyInstalled (Failed f) s d at is = tt
@@ -203,24 +212,27 @@ op_keeps fsm.CheckData Done s d at is = tt
 op_keeps op Done s d at is = is
 op_keeps op e s d at is = tt
 
-answer_keeps : (s : State) (next : Option State) (d : Owned) → is_some next ≡ true → IfSome next (Holds d)
-    → Holds d (answer s next).1
+-- The invariant holds for the state that `step` returns, if the event fits.
+answer_keeps : (s : State) (next : Option State) (d : Owned) → is_some next ≡ true
+    → IfSome next (StateInvariant d)
+    → StateInvariant d (answer s next).1
 answer_keeps s (Some t) d fits holds = holds
 answer_keeps s None d fits holds = absurd (true≢false (sym fits))
 
-run_owns : (n : ℕ) (s : State) (events : List Event) (t : State) (d : Owned) → Holds d s
-    → IsRun (λ n s e. EventFits s e) n s events t → Holds (owned_by s events d) t
+run_owns : (n : ℕ) (s : State) (events : List Event) (t : State) (d : Owned) → StateInvariant d s
+    → IsRun (λ n s e. EventFits s e) n s events t → StateInvariant (owned_by s events d) t
 run_owns n s [] t d holds is = rw is holds
 run_owns n s (e ∷ more) t d holds (fits, run) =
     run_owns (count n e) (step s e).1 more t (owns s.due e d)
     (answer_keeps s (after s.due e s) (owns s.due e d) fits (op_keeps s.due e s d refl holds)) run
 
+-- The invariant holds when a run begins.
 begins : (check : Bool) (o : Options)
-    → Owns (if check then fsm.ReadRecord else fsm.Lock) nothing_owned
+    → MayOwn (if check then fsm.ReadRecord else fsm.Lock) nothing_owned
 begins true o = (refl, refl)
 begins false o = (refl, refl)
 
-ended : (op : Operation) (d : Owned) → Owns op d → has_ended op ≡ true → OwnsNone d
+ended : (op : Operation) (d : Owned) → MayOwn op d → has_ended op ≡ true → OwnsNone d
 ended fsm.Installed d is over = is
 ended fsm.AlreadyInstalled d is over = is
 ended fsm.WouldInstall d is over = is

@@ -20,94 +20,98 @@ use Rattle.minisign_install.specs.Step.{ListRead}
 module _ (old : Disk) where
   -- Until the record is renamed, the target and the record are unchanged. After that, only a failure can
   -- reject the run.
-  abbrev Holds : Operation → Disk → Type 0
-  Holds fsm.SyncRecordName d = ⊤
-  Holds fsm.RenameFile d = ⊤
-  Holds fsm.SyncFileName d = ⊤
-  Holds fsm.Installed d = ⊤
-  Holds op d = d ≡ old
+  abbrev InvariantAt : Operation → Disk → Type 0
+  InvariantAt fsm.SyncRecordName d = ⊤
+  InvariantAt fsm.RenameFile d = ⊤
+  InvariantAt fsm.SyncFileName d = ⊤
+  InvariantAt fsm.Installed d = ⊤
+  InvariantAt op d = d ≡ old
 
-  -- Holds is true of the result of a conditional if it is true of both branches, states here and operations
-  -- in either_op.
-  either : (b : Bool) (s t : State) (d : Disk) → Holds s.due d → Holds t.due d
-      → Holds (if b then s else t).due d
-  either true s t d one other = one
-  either false s t d one other = other
+  -- InvariantAt holds for a conditional if it holds for both branches, which are states here and operations
+  -- in both_op_branches.
+  both_branches : (b : Bool) (s t : State) (d : Disk) → InvariantAt s.due d → InvariantAt t.due d
+      → InvariantAt (if b then s else t).due d
+  both_branches true s t d one other = one
+  both_branches false s t d one other = other
 
-  either_op : (b : Bool) (x y : Operation) (d : Disk) → Holds x d → Holds y d → Holds (if b then x else y) d
-  either_op true x y d one other = one
-  either_op false x y d one other = other
+  both_op_branches : (b : Bool) (x y : Operation) (d : Disk) → InvariantAt x d → InvariantAt y d
+      → InvariantAt (if b then x else y) d
+  both_op_branches true x y d one other = one
+  both_op_branches false x y d one other = other
 
-  -- If the files are unchanged, Holds is true after each function that chooses the next operation, up to
+  -- If the files are unchanged, InvariantAt holds after each function that chooses the next operation, up to
   -- after_copy. The lemmas have the names of these functions.
-  reject : (fault : InstallFault) (s : State) (d : Disk) → d ≡ old → Holds (fsm.reject fault s).due d
-  reject fault s d is = either_op (fsm.has_files s.due) fsm.RemoveFiles fsm.Rejected d is is
+  reject : (fault : InstallFault) (s : State) (d : Disk) → d ≡ old → InvariantAt (fsm.reject fault s).due d
+  reject fault s d is = both_op_branches (fsm.has_files s.due) fsm.RemoveFiles fsm.Rejected d is is
 
-  install : (s : State) (d : Disk) → d ≡ old → Holds (fsm.install s).due d
-  install s d is = either_op s.options.check fsm.WouldInstall fsm.RemoveLeftovers d is is
+  install : (s : State) (d : Disk) → d ≡ old → InvariantAt (fsm.install s).due d
+  install s d is = both_op_branches s.options.check fsm.WouldInstall fsm.RemoveLeftovers d is is
 
-  compare : (s : State) (d : Disk) → d ≡ old → Holds (fsm.compare s).due d
+  compare : (s : State) (d : Disk) → d ≡ old → InvariantAt (fsm.compare s).due d
   compare s d is =
-      either (fsm.is_newer s) (fsm.install s) _ d (install s d is)
-      (either (is_some s.recorded.digest) (fsm.go fsm.CheckRecord s) _ d is
-      (either (fsm.is_rolling_back s) (fsm.install s) (fsm.go fsm.ReadTarget s) d (install s d is) is))
+      both_branches (fsm.is_newer s) (fsm.install s) _ d (install s d is)
+      (both_branches (is_some s.recorded.digest) (fsm.go fsm.CheckRecord s) _ d is
+      (both_branches (fsm.is_rolling_back s) (fsm.install s) (fsm.go fsm.ReadTarget s) d (install s d is) is))
 
   after_record : (s : State) (d : Disk) (judged : Result Recorded InstallFault) → d ≡ old
-      → Holds (fsm.after_record judged s).due d
+      → InvariantAt (fsm.after_record judged s).due d
   after_record s d (Ok recorded) is = is
   after_record s d (Err fault) is = reject fault s d is
 
   after_signature : (s : State) (d : Disk) (judged : Result (SignatureTextRecord × List PublicKeyValue) Fault)
-      (time : Option ℕ) → d ≡ old → Holds (fsm.after_signature judged time s).due d
+      (time : Option ℕ) → d ≡ old → InvariantAt (fsm.after_signature judged time s).due d
   after_signature s d (Ok (t, signers)) time is = is
   after_signature s d (Err fault) time is = reject (Library fault) s d is
 
   after_comment : (s : State) (d : Disk) (fault : Option InstallFault) → d ≡ old
-      → Holds (fsm.after_comment fault s).due d
-  after_comment s d None is = either (is_some s.options.list) (fsm.go fsm.ReadList s) _ d is (compare s d is)
+      → InvariantAt (fsm.after_comment fault s).due d
+  after_comment s d None is =
+      both_branches (is_some s.options.list) (fsm.go fsm.ReadList s) _ d is (compare s d is)
   after_comment s d (Some fault) is = reject fault s d is
 
   next_key : (s : State) (d : Disk) (signers : List PublicKeyValue) → s.due ≡ fsm.CheckComment → d ≡ old
-      → Holds (fsm.next_key signers s).due d
+      → InvariantAt (fsm.next_key signers s).due d
   next_key s d [] same is = reject (Library (Named named.CommentSignatureRefused)) s d is
   next_key s d (v ∷ []) same is = reject (Library (Named named.CommentSignatureRefused)) s d is
   next_key s d (v ∷ w ∷ more) same is = rw same is
 
   after_listing : (s : State) (d : Disk) (listed : Result ListedDigest InstallFault) → d ≡ old
-      → Holds (fsm.after_listing listed s).due d
+      → InvariantAt (fsm.after_listing listed s).due d
   after_listing s d (Ok digest) is = compare s d is
   after_listing s d (Err fault) is = reject fault s d is
 
-  after_data : (s : State) (d : Disk) (listed : Bool) → d ≡ old → Holds (fsm.after_data listed s).due d
+  after_data : (s : State) (d : Disk) (listed : Bool) → d ≡ old → InvariantAt (fsm.after_data listed s).due d
   after_data s d true is = is
   after_data s d false is = reject DigestMismatch s d is
 
   after_digest : (s : State) (d : Disk) (accepted : Bool) → d ≡ old
-      → Holds (fsm.after_digest accepted s).due d
+      → InvariantAt (fsm.after_digest accepted s).due d
   after_digest s d accepted is =
-      either (not accepted && fsm.is_rolling_back s) (fsm.install s) _ d (install s d is) is
+      both_branches (not accepted && fsm.is_rolling_back s) (fsm.install s) _ d (install s d is) is
 
   after_target : (s : State) (d : Disk) (accepted : Bool) → d ≡ old
-      → Holds (fsm.after_target accepted s).due d
-  after_target s d true is = either_op s.options.check fsm.AlreadyInstalled fsm.SyncTarget d is is
+      → InvariantAt (fsm.after_target accepted s).due d
+  after_target s d true is = both_op_branches s.options.check fsm.AlreadyInstalled fsm.SyncTarget d is is
   after_target s d false is =
-      either (s.is_recorded || s.options.again) (fsm.install s) (fsm.reject SameNumber s) d (install s d is)
+      both_branches (s.is_recorded || s.options.again) (fsm.install s) (fsm.reject SameNumber s) d
+      (install s d is)
       (reject SameNumber s d is)
 
   after_piece : (n : ℕ) (s : State) (d : Disk) (left : Option ℕ) → s.due ≡ fsm.CopyData → d ≡ old
-      → Holds (fsm.after_piece n left s).due d
+      → InvariantAt (fsm.after_piece n left s).due d
   after_piece n s d None same is = rw same is
   after_piece n s d (Some left) same is =
-      either (nat_le n left) _ (fsm.reject OtherSize s) d (rw same is) (reject OtherSize s d is)
+      both_branches (nat_le n left) _ (fsm.reject OtherSize s) d (rw same is) (reject OtherSize s d is)
 
-  after_copy : (s : State) (d : Disk) (left : Option ℕ) → d ≡ old → Holds (fsm.after_copy left s).due d
+  after_copy : (s : State) (d : Disk) (left : Option ℕ) → d ≡ old → InvariantAt (fsm.after_copy left s).due d
   after_copy s d None is = is
   after_copy s d (Some left) is =
-      either (left == 0) (fsm.go fsm.ReadBack s) (fsm.reject OtherSize s) d is (reject OtherSize s d is)
+      both_branches (left == 0) (fsm.go fsm.ReadBack s) (fsm.reject OtherSize s) d is
+      (reject OtherSize s d is)
 
-  -- If Holds is true before an operation that succeeds, it is true afterwards for the next operation.
-  op_keeps : (op : Operation) (e : Event) (s : State) (mid new : Disk) → s.due ≡ op → Holds op mid
-      → Changes op s e mid new → Succeeds e → IfSome (after op e s) (λ t. Holds t.due new)
+  -- If InvariantAt holds before an operation that succeeds, it holds afterwards for the next operation.
+  op_keeps : (op : Operation) (e : Event) (s : State) (mid new : Disk) → s.due ≡ op → InvariantAt op mid
+      → Changes op s e mid new → Succeeds e → IfSome (after op e s) (λ t. InvariantAt t.due new)
   op_keeps op (Failed f) s mid new at holds change fine = absurd fine
   op_keeps op InUse s mid new at holds change fine = absurd fine
   op_keeps fsm.ReadRecord (RecordRead found) s mid new at same change fine =
@@ -159,24 +163,26 @@ module _ (old : Disk) where
 
   -- The same for the state that `step` returns, if the installer accepts the event.
   answer_keeps : (s : State) (new : Disk) (next : Option State) → is_some next ≡ true
-      → IfSome next (λ t. Holds t.due new) → Holds (answer s next).1.due new
+      → IfSome next (λ t. InvariantAt t.due new) → InvariantAt (answer s next).1.due new
   answer_keeps s new (Some t) fits holds = holds
   answer_keeps s new None fits holds = absurd (true≢false (sym fits))
 
-  -- Holds is true after a run in which no operation failed.
+  -- InvariantAt holds after a run in which no operation failed.
   run_holds : (w : World) (n : ℕ) (s : State) (mid : Disk) (events : List (Event × Disk)) (t : State)
-      (new : Disk) → Holds s.due mid → Runs w n s mid events t new → AllSucceed events → Holds t.due new
+      (new : Disk) → InvariantAt s.due mid → Runs w n s mid events t new → AllSucceed events
+      → InvariantAt t.due new
   run_holds w n s mid [] t new holds (is, same) fine = rw (is, same) holds
   run_holds w n s mid ((e, disk) ∷ more) t new holds ((fits, is), change, rest) (fine, all) =
       run_holds w (count n e) (step s e).1 disk more t new
       (answer_keeps s disk (after s.due e s) fits
       (op_keeps s.due e s mid disk refl holds change fine)) rest all
 
-  begins : (check : Bool) → Holds (if check then fsm.ReadRecord else fsm.Lock) old
+  -- The invariant holds when a run begins.
+  begins : (check : Bool) → InvariantAt (if check then fsm.ReadRecord else fsm.Lock) old
   begins true = refl
   begins false = refl
 
-  at_end : (op : Operation) (new : Disk) → op ≡ fsm.Rejected → Holds op new → new ≡ old
+  at_end : (op : Operation) (new : Disk) → op ≡ fsm.Rejected → InvariantAt op new → new ≡ old
   at_end op new same holds = rw same at holds
 
 -- If no operation fails and the lock is free, a run that is rejected leaves the target and the record

@@ -23,10 +23,11 @@ use Rattle.minisign_install.specs.Step.{Operation, after, answer, comment_questi
 use Rattle.minisign_install.specs.Step.{has_files, new_record}
 use Rattle.minisign_install.specs.Step as fsm
 use Rattle.minisign_install.specs.StepRuns.{IsTrueEvent, World, count, Changes, Disk, IsSafe, HasVersion}
-use Rattle.minisign_install.specs.StepRuns.{HasListing, ComparesNoVersion, IsUpdate, Runs, says_yes}
+use Rattle.minisign_install.specs.StepRuns.{HasListing, ComparesNoVersion, IsUpdate, Runs, accepts_question}
 use Rattle.minisign_install.proofs.Listings.{listed_is}
 use Rattle.minisign_lists.specs.declared.digests.ListedDigest.{ListedDigest}
 
+-- If a required check is followed by others and all succeed, the others succeed.
 pub required : {V : Type 0} (holds : Bool) (fault : NamedFault) (more : Result V Fault) (v : V)
     → require holds fault more ≡ Ok v → more ≡ Ok v
 required true fault more v is = is
@@ -36,12 +37,14 @@ required false fault more v is = cc is
 abbrev pub Passed : Type 0
 Passed = Result (SignatureTextRecord × List PublicKeyValue) Fault
 
+-- The result of checks that succeed, and below of checks that fail.
 abbrev pub pass : SignatureTextRecord → List PublicKeyValue → Passed
 pass t keys = Ok (t, keys)
 
 abbrev stop : Fault → Passed
 stop e = Err e
 
+-- The two are different.
 pub no_pass : {P : Type 0} (e : Fault) (t : SignatureTextRecord) (keys : List PublicKeyValue)
     → stop e ≡ pass t keys → P
 no_pass e t keys is = cc is
@@ -59,6 +62,7 @@ abbrev version_of : Result Recorded InstallFault → Option ℕ
 version_of (Ok r) = r.version
 version_of (Err e) = None
 
+-- If the record is ignored, there is no recorded version, and --first is given (first_is_set).
 no_version : (first : Bool) (e : InstallFault) (r : Recorded)
     → (if first then Ok nothing_recorded else Err e) ≡ Ok r → None ≡ r.version
 no_version true e r is = ap version_of is
@@ -91,6 +95,7 @@ module _ (w : World) (o : Options) where
   same_text (v ∷ more) t u keys is =
       one_pass t u (v ∷ more) keys (required _ _ _ (u, keys) (required _ _ _ (u, keys) is))
 
+  -- If the checks of the signature file succeed, it was parsed, and the result has its contents.
   pub text_parsed : (text : Result SignatureTextRecord Fault) (t : SignatureTextRecord)
       (keys : List PublicKeyValue) → judge_text o text ≡ Ok (t, keys) → text ≡ Ok t
   text_parsed (Err e) t keys is = no_pass e t keys (required _ _ _ (t, keys) is)
@@ -104,6 +109,7 @@ module _ (w : World) (o : Options) where
       applies_or_not ((o.first || o.new_key) && names_other_key o bytes) n k _ _
       (ap version_of is ∙ some)
 
+  -- If there is a recorded version, it is that of the record.
   has_version : (found : Option (List ℕ)) (r : Recorded) (k : ℕ) → judge_record o found ≡ Ok r
       → r.version ≡ Some k → HasVersion o found k
   has_version None r k is some = absurd (none-some k (no_version o.first _ r is ∙ some))
@@ -116,13 +122,25 @@ module _ (w : World) (o : Options) where
   compares_none bytes (Some n) r reads is none =
       inr (both_are_set (o.first || o.new_key) (names_other_key o bytes) n _ _ (ap version_of is ∙ none))
 
+  -- Otherwise no version is compared, as ComparesNoVersion says.
   not_compared : (found : Option (List ℕ)) (r : Recorded) → judge_record o found ≡ Ok r
       → r.version ≡ None → ComparesNoVersion o found
   not_compared None r is none = first_is_set o.first _ r is
   not_compared (Some bytes) r is none =
       compares_none bytes (recorded_version o.numbering bytes) r refl is none
 
-  -- The record was accepted, and the signature file was read. `fault` is the result of checking the comment.
+  -- The invariant at CheckComment: the record was accepted, and the signature file passed the checks that
+  -- need no Ed25519. The parts of this tuple are:
+  --
+  --   0, 1: the parsed signature file, and all given keys with its key ID
+  --   2: those of the keys that were tried already
+  --   3: the time that was passed in
+  --   4: the options are those of the run
+  --   5: the record was accepted, and `recorded` is the part of it that applies
+  --   6, 7: the signature file was parsed, and passed the checks
+  --   8: the keys are those that were tried and those that were not (`signers`)
+  --   9, 10: the error and the version number are those of the comment
+  --   11, 12: the two signatures are those of the signature file
   abbrev pub IsJudged : State → Type 0
   IsJudged s =
       (text : SignatureTextRecord) × (keys : List PublicKeyValue) × (others : List PublicKeyValue)
@@ -138,7 +156,7 @@ module _ (w : World) (o : Options) where
   abbrev pub IsCommented : State → Type 0
   IsCommented s =
       (judged : IsJudged s) × (s.fault ≡ None)
-      × (says_yes w (comment_question s judged.0.comments.trusted) ≡ true)
+      × (accepts_question w (comment_question s judged.0.comments.trusted) ≡ true)
 
   -- In addition, the list was read, if there is one.
   abbrev pub IsAccepted : State → Type 0
@@ -147,9 +165,10 @@ module _ (w : World) (o : Options) where
   -- In addition, this key has signed the data that was read, or the list in which it is listed.
   abbrev pub IsWhole : State → Type 0
   IsWhole s =
-      IsAccepted s × (says_yes w (data_question fsm.CheckData s) ≡ true)
+      IsAccepted s × (accepts_question w (data_question fsm.CheckData s) ≡ true)
       × (fits_list o.list w.list w.name s.read ≡ true)
 
+  -- The version number that is recorded next is not below the recorded one.
   not_below : (r : Option ℕ) (v k : ℕ) → r ≡ Some k
       → k ≤ (if is_below (Some v) r then unwrap_or r v else v)
   not_below None v k is = absurd (none-some k is)
@@ -158,6 +177,7 @@ module _ (w : World) (o : Options) where
     | false ↦ λ not. omega (arith, same_Some j k is, ltb-false v j not)
   ] refl
 
+  -- The state is that of an update that may be installed (IsUpdate).
   pub update_of : (s : State) → IsWhole s → IsUpdate w o s
   update_of s (
     (
@@ -211,29 +231,29 @@ module _ (w : World) (o : Options) where
   }
 
   -- The invariant at each operation.
-  abbrev pub Known : Operation → State → Type 0
-  Known fsm.Lock s = s.options ≡ o
-  Known fsm.ReadRecord s = s.options ≡ o
-  Known fsm.ReadSignature s = (s.options ≡ o) × (judge_record o w.found_record ≡ Ok s.recorded)
-  Known fsm.CheckComment s = IsJudged s
-  Known fsm.ReadList s = IsCommented s × (is_some o.list ≡ true)
-  Known fsm.CheckList s = IsAccepted s × (is_some o.list ≡ true)
-  Known fsm.CheckRecord s = IsAccepted s
-  Known fsm.ReadTarget s = IsAccepted s
-  Known fsm.CheckTarget s = IsAccepted s
-  Known fsm.SyncTarget s = IsAccepted s
-  Known fsm.SyncTargetName s = IsAccepted s
-  Known fsm.RemoveLeftovers s = IsAccepted s
-  Known fsm.CreateFile s = IsAccepted s
-  Known fsm.CopyData s = IsAccepted s
-  Known fsm.ReadBack s = IsAccepted s
-  Known fsm.CheckData s = IsAccepted s
-  Known fsm.AlreadyInstalled s = IsAccepted s
-  Known fsm.WouldInstall s = IsAccepted s
-  Known fsm.RemoveFiles s = ⊤
-  Known fsm.Rejected s = ⊤
-  Known fsm.Nothing s = ⊤
-  Known op s = IsWhole s
+  abbrev pub InvariantAt : Operation → State → Type 0
+  InvariantAt fsm.Lock s = s.options ≡ o
+  InvariantAt fsm.ReadRecord s = s.options ≡ o
+  InvariantAt fsm.ReadSignature s = (s.options ≡ o) × (judge_record o w.found_record ≡ Ok s.recorded)
+  InvariantAt fsm.CheckComment s = IsJudged s
+  InvariantAt fsm.ReadList s = IsCommented s × (is_some o.list ≡ true)
+  InvariantAt fsm.CheckList s = IsAccepted s × (is_some o.list ≡ true)
+  InvariantAt fsm.CheckRecord s = IsAccepted s
+  InvariantAt fsm.ReadTarget s = IsAccepted s
+  InvariantAt fsm.CheckTarget s = IsAccepted s
+  InvariantAt fsm.SyncTarget s = IsAccepted s
+  InvariantAt fsm.SyncTargetName s = IsAccepted s
+  InvariantAt fsm.RemoveLeftovers s = IsAccepted s
+  InvariantAt fsm.CreateFile s = IsAccepted s
+  InvariantAt fsm.CopyData s = IsAccepted s
+  InvariantAt fsm.ReadBack s = IsAccepted s
+  InvariantAt fsm.CheckData s = IsAccepted s
+  InvariantAt fsm.AlreadyInstalled s = IsAccepted s
+  InvariantAt fsm.WouldInstall s = IsAccepted s
+  InvariantAt fsm.RemoveFiles s = ⊤
+  InvariantAt fsm.Rejected s = ⊤
+  InvariantAt fsm.Nothing s = ⊤
+  InvariantAt op s = IsWhole s
 
   module _ (old : Disk) where
     -- The changes of the disk before this operation.
@@ -246,10 +266,12 @@ module _ (w : World) (o : Options) where
     Changed fsm.Rejected s new = IsSafe w o old new
     Changed op s new = new ≡ old
 
-    abbrev pub Holds : Operation → State → Disk → Type 0
-    Holds op s new = Known op s × Changed op s new
+    -- The invariant of the state and of the disk.
+    abbrev pub DiskInvariant : Operation → State → Disk → Type 0
+    DiskInvariant op s new = InvariantAt op s × Changed op s new
 
-    safe_at : (op : Operation) (s : State) (new : Disk) → Holds op s new → IsSafe w o old new
+    -- If the invariant holds, the disk is safe.
+    safe_at : (op : Operation) (s : State) (new : Disk) → DiskInvariant op s new → IsSafe w o old new
     safe_at fsm.SyncRecordName s new (known, (target, recorded)) =
         inr (s, update_of s known, recorded, inl target)
     safe_at fsm.RenameFile s new (known, (target, recorded)) =
@@ -262,7 +284,8 @@ module _ (w : World) (o : Options) where
     safe_at fsm.Rejected s new (known, safe) = safe
     safe_at op s new (known, same) = inl same
 
-    failed : (op : Operation) (f : NamedFault) (s : State) (mid new : Disk) → Holds op s mid
+    -- The disk is still safe after an operation that failed.
+    failed : (op : Operation) (f : NamedFault) (s : State) (mid new : Disk) → DiskInvariant op s mid
         → Changes op s (Failed f) mid new → IsSafe w o old new
     failed fsm.RenameRecord f s mid new (known, same) (inl is) = inl (is ∙ same)
     failed fsm.RenameRecord f s mid new (known, same) (inr is) =
@@ -279,23 +302,26 @@ module _ (w : World) (o : Options) where
     failed op f s mid new holds is = rw is (safe_at op s mid holds)
 
     -- If the disk is safe when a run is rejected, the invariant holds.
-    rejected : (is : Bool) (s : State) (new : Disk) → IsSafe w o old new
-        → Holds (if is then fsm.RemoveFiles else fsm.Rejected) s new
-    rejected true s new safe = (tt, safe)
-    rejected false s new safe = (tt, safe)
+    after_rejection : (is : Bool) (s : State) (new : Disk) → IsSafe w o old new
+        → DiskInvariant (if is then fsm.RemoveFiles else fsm.Rejected) s new
+    after_rejection true s new safe = (tt, safe)
+    after_rejection false s new safe = (tt, safe)
 
+    -- The next lemmas have the names of the functions in Step.antt that choose the next state. Each proves
+    -- the invariant after its function.
     reject : (fault : InstallFault) (s : State) (new : Disk) → IsSafe w o old new
-        → Holds (fsm.reject fault s).due (fsm.reject fault s) new
-    reject fault s new safe = rejected (has_files s.due) (fsm.reject fault s) new safe
+        → DiskInvariant (fsm.reject fault s).due (fsm.reject fault s) new
+    reject fault s new safe = after_rejection (has_files s.due) (fsm.reject fault s) new safe
 
     after_record : (s : State) (new : Disk) (r : Result Recorded InstallFault) → s.options ≡ o → new ≡ old
-        → judge_record o w.found_record ≡ r → Holds (fsm.after_record r s).due (fsm.after_record r s) new
+        → judge_record o w.found_record ≡ r
+        → DiskInvariant (fsm.after_record r s).due (fsm.after_record r s) new
     after_record s new (Ok recorded) same is record_applies = ((same, record_applies), is)
     after_record s new (Err fault) same is record_applies = reject fault s new (inl is)
 
     after_signature : (s : State) (new : Disk) (r : Passed) (time : Option ℕ)
-        → Known fsm.ReadSignature s → new ≡ old → judge_text o w.text ≡ r
-        → Holds (fsm.after_signature r time s).due (fsm.after_signature r time s) new
+        → InvariantAt fsm.ReadSignature s → new ≡ old → judge_text o w.text ≡ r
+        → DiskInvariant (fsm.after_signature r time s).due (fsm.after_signature r time s) new
     after_signature s new (Ok (t, keys)) time (same, record_applies) is passed =
         let parsed = text_parsed w.text t keys passed in
         let again : judge_text o (Ok t) ≡ Ok (t, keys) = rw parsed at passed in (
@@ -319,48 +345,52 @@ module _ (w : World) (o : Options) where
     after_signature s new (Err fault) time known is passed = reject (Library fault) s new (inl is)
 
     -- If the invariant holds for both branches of a conditional, it holds for its result.
-    either : (is : Bool) (s t : State) (new : Disk) → Holds s.due s new → Holds t.due t new
-        → Holds (if is then s else t).due (if is then s else t) new
-    either true s t new one other = one
-    either false s t new one other = other
+    both_branches : (is : Bool) (s t : State) (new : Disk) → DiskInvariant s.due s new
+        → DiskInvariant t.due t new
+        → DiskInvariant (if is then s else t).due (if is then s else t) new
+    both_branches true s t new one other = one
+    both_branches false s t new one other = other
 
+    -- The operation after `install`, in a check and in an installation.
     to_install : (check : Bool) (s : State) (new : Disk) → IsAccepted s → new ≡ old
-        → Holds (if check then fsm.WouldInstall else fsm.RemoveLeftovers) (fsm.install s) new
+        → DiskInvariant (if check then fsm.WouldInstall else fsm.RemoveLeftovers) (fsm.install s) new
     to_install true s new accepted is = (accepted, is)
     to_install false s new accepted is = (accepted, is)
 
     install : (s : State) (new : Disk) → IsAccepted s → new ≡ old
-        → Holds (fsm.install s).due (fsm.install s) new
+        → DiskInvariant (fsm.install s).due (fsm.install s) new
     install s new accepted is = to_install s.options.check s new accepted is
 
     compare : (s : State) (new : Disk) → IsAccepted s → new ≡ old
-        → Holds (fsm.compare s).due (fsm.compare s) new
+        → DiskInvariant (fsm.compare s).due (fsm.compare s) new
     compare s new accepted is =
-        either (fsm.is_newer s) _ _ new (install s new accepted is)
-        (either (is_some s.recorded.digest) _ _ new (accepted, is)
-        (either (fsm.is_rolling_back s) _ _ new (install s new accepted is) (accepted, is)))
+        both_branches (fsm.is_newer s) _ _ new (install s new accepted is)
+        (both_branches (is_some s.recorded.digest) _ _ new (accepted, is)
+        (both_branches (fsm.is_rolling_back s) _ _ new (install s new accepted is) (accepted, is)))
 
-    list_next : (listed : Bool) (s : State) (new : Disk) → is_some o.list ≡ listed → IsCommented s
+    -- The comment is accepted. The list is due next, if there is one.
+    list_or_compare : (listed : Bool) (s : State) (new : Disk) → is_some o.list ≡ listed → IsCommented s
         → new ≡ old
-        → Holds (if listed then fsm.go fsm.ReadList s else fsm.compare s).due
+        → DiskInvariant (if listed then fsm.go fsm.ReadList s else fsm.compare s).due
         (if listed then fsm.go fsm.ReadList s else fsm.compare s) new
-    list_next true s new some known is = ((known, some), is)
-    list_next false s new none known is =
+    list_or_compare true s new some known is = ((known, some), is)
+    list_or_compare false s new none known is =
         compare s new (known, λ some. absurd (true≢false (sym some ∙ none))) is
 
     after_comment : (s : State) (new : Disk) (fault : Option InstallFault) → (judged : IsJudged s)
-        → s.fault ≡ fault → says_yes w (comment_question s judged.0.comments.trusted) ≡ true → new ≡ old
-        → Holds (fsm.after_comment fault (record s { is_signed = true })).due
+        → s.fault ≡ fault → accepts_question w (comment_question s judged.0.comments.trusted) ≡ true
+        → new ≡ old
+        → DiskInvariant (fsm.after_comment fault (record s { is_signed = true })).due
         (fsm.after_comment fault (record s { is_signed = true })) new
     after_comment s new None judged none comment is =
-        list_next (is_some s.options.list) (record s { is_signed = true }) new
+        list_or_compare (is_some s.options.list) (record s { is_signed = true }) new
         (ap (λ (x : Options). is_some x.list) (sym judged.4)) (judged, none, comment) is
     after_comment s new (Some fault) judged some comment is =
         reject fault (record s { is_signed = true }) new (inl is)
 
     next_key : (s : State) (new : Disk) (signers : List PublicKeyValue) → s.due ≡ fsm.CheckComment
         → IsJudged (record s { signers = signers }) → new ≡ old
-        → Holds (fsm.next_key signers s).due (fsm.next_key signers s) new
+        → DiskInvariant (fsm.next_key signers s).due (fsm.next_key signers s) new
     next_key s new [] at judged is = reject _ s new (inl is)
     next_key s new (v ∷ []) at judged is = reject _ s new (inl is)
     next_key s new (v ∷ u ∷ more) at (
@@ -401,57 +431,58 @@ module _ (w : World) (o : Options) where
         )
 
     after_listing : (s : State) (new : Disk) (listed : Result ListedDigest InstallFault) → IsAccepted s
-        → new ≡ old → Holds (fsm.after_listing listed s).due (fsm.after_listing listed s) new
+        → new ≡ old → DiskInvariant (fsm.after_listing listed s).due (fsm.after_listing listed s) new
     after_listing s new (Ok digest) known is = compare s new known is
     after_listing s new (Err fault) known is = reject fault s new (inl is)
 
     after_data : (s : State) (new : Disk) (listed : Bool) → is_listed s ≡ listed → IsAccepted s
-        → says_yes w (data_question fsm.CheckData s) ≡ true → new ≡ old
-        → Holds (fsm.after_data listed s).due (fsm.after_data listed s) new
+        → accepts_question w (data_question fsm.CheckData s) ≡ true → new ≡ old
+        → DiskInvariant (fsm.after_data listed s).due (fsm.after_data listed s) new
     after_data s new true listed (known, listing) whole is =
         (((known, listing), whole, sym (listed_is w o s known.0.4 listing) ∙ listed), is)
     after_data s new false listed known whole is = reject DigestMismatch s new (inl is)
 
     after_digest : (s : State) (new : Disk) (accepted : Bool) → IsAccepted s → new ≡ old
-        → Holds (fsm.after_digest accepted s).due (fsm.after_digest accepted s) new
+        → DiskInvariant (fsm.after_digest accepted s).due (fsm.after_digest accepted s) new
     after_digest s new accepted known is =
-        either (not accepted && fsm.is_rolling_back s) _ _ new (install s new known is) (known, is)
+        both_branches (not accepted && fsm.is_rolling_back s) _ _ new (install s new known is) (known, is)
 
     target_is_update : (check : Bool) (s : State) (new : Disk) → IsAccepted s → new ≡ old
-        → Holds (if check then fsm.AlreadyInstalled else fsm.SyncTarget) s new
+        → DiskInvariant (if check then fsm.AlreadyInstalled else fsm.SyncTarget) s new
     target_is_update true s new known is = (known, is)
     target_is_update false s new known is = (known, is)
 
     after_target : (s : State) (new : Disk) (accepted : Bool) → IsAccepted s → new ≡ old
-        → Holds (fsm.after_target accepted s).due (fsm.after_target accepted s) new
+        → DiskInvariant (fsm.after_target accepted s).due (fsm.after_target accepted s) new
     after_target s new true known is = target_is_update s.options.check (fsm.after_target true s) new known is
     after_target s new false known is =
-        either (s.is_recorded || s.options.again) _ _ new (install s new known is)
+        both_branches (s.is_recorded || s.options.again) _ _ new (install s new known is)
         (reject SameNumber s new (inl is))
 
     after_piece : (n : ℕ) (s : State) (new : Disk) (left : Option ℕ) → s.due ≡ fsm.CopyData → IsAccepted s
-        → new ≡ old → Holds (fsm.after_piece n left s).due (fsm.after_piece n left s) new
+        → new ≡ old → DiskInvariant (fsm.after_piece n left s).due (fsm.after_piece n left s) new
     after_piece n s new None at known is = rw at (known, is)
     after_piece n s new (Some left) at known is =
-        either (nat_le n left) _ _ new (rw at (known, is)) (reject OtherSize s new (inl is))
+        both_branches (nat_le n left) _ _ new (rw at (known, is)) (reject OtherSize s new (inl is))
 
     after_copy : (s : State) (new : Disk) (left : Option ℕ) → IsAccepted s → new ≡ old
-        → Holds (fsm.after_copy left s).due (fsm.after_copy left s) new
+        → DiskInvariant (fsm.after_copy left s).due (fsm.after_copy left s) new
     after_copy s new None known is = (known, is)
     after_copy s new (Some left) known is =
-        either (left == 0) _ _ new (known, is) (reject OtherSize s new (inl is))
+        both_branches (left == 0) _ _ new (known, is) (reject OtherSize s new (inl is))
 
     -- The invariant holds after a failure with an error that an operation can have. Other failures do not
     -- fit, so there is no state after them.
-    holds_if_some : (is : Bool) (t : State) (new : Disk) → Holds t.due t new
-        → IfSome (if is then Some t else None) (λ x. Holds x.due x new)
+    holds_if_some : (is : Bool) (t : State) (new : Disk) → DiskInvariant t.due t new
+        → IfSome (if is then Some t else None) (λ x. DiskInvariant x.due x new)
     holds_if_some true t new holds = holds
     holds_if_some false t new holds = tt
 
+    -- An operation keeps the invariant.
     pub op_keeps : (n : ℕ) (op : Operation) (e : Event) (s : State) (mid new : Disk) → s.due ≡ op
-        → Holds op s mid
+        → DiskInvariant op s mid
         → Changes op s e mid new → IsTrueEvent w n s op e
-        → IfSome (after op e s) (λ t. Holds t.due t new)
+        → IfSome (after op e s) (λ t. DiskInvariant t.due t new)
     op_keeps n fsm.Nothing (Failed f) s mid new at holds change is = tt
     op_keeps n fsm.Installed (Failed f) s mid new at holds change is = tt
     op_keeps n fsm.AlreadyInstalled (Failed f) s mid new at holds change is = tt
@@ -533,20 +564,24 @@ module _ (w : World) (o : Options) where
     op_keeps n op Done s mid new at (known, same) change is = (known, change ∙ same)
     op_keeps n op e s mid new at holds change is = tt
 
+    -- The invariant holds for the state that `step` returns, if the event fits.
     pub answer_keeps : (e : Event) (s : State) (new : Disk) (next : Option State) → is_some next ≡ true
-        → IfSome next (λ t. Holds t.due t new) → Holds (answer s next).1.due (answer s next).1 new
+        → IfSome next (λ t. DiskInvariant t.due t new)
+        → DiskInvariant (answer s next).1.due (answer s next).1 new
     answer_keeps e s new (Some t) fits holds = holds
     answer_keeps e s new None fits holds = absurd (true≢false (sym fits))
 
+    -- The invariant holds after a run that starts in a state in which it holds.
     run_holds : (n : ℕ) (s : State) (mid : Disk) (events : List (Event × Disk)) (t : State) (new : Disk)
-        → Holds s.due s mid → Runs w n s mid events t new → Holds t.due t new
+        → DiskInvariant s.due s mid → Runs w n s mid events t new → DiskInvariant t.due t new
     run_holds n s mid [] t new holds (is, same) = rw (is, same) holds
     run_holds n s mid ((e, disk) ∷ more) t new holds ((fits, is), change, rest) =
         run_holds (count n e) (step s e).1 disk more t new
         (answer_keeps e s disk (after s.due e s) fits
         (op_keeps n s.due e s mid disk refl holds change is)) rest
 
-    pub begins : (check : Bool) → Holds (if check then fsm.ReadRecord else fsm.Lock) (begin o) old
+    -- The invariant holds when a run begins.
+    pub begins : (check : Bool) → DiskInvariant (if check then fsm.ReadRecord else fsm.Lock) (begin o) old
     begins true = (refl, refl)
     begins false = (refl, refl)
 

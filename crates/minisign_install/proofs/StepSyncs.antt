@@ -5,7 +5,7 @@ use Rattle.std.specs.Prelude.{None, Result, Ok, Err, IfSome, is_some, if◌then�
 use Rattle.std.proofs.Common.{refl, inl, inr, sym, true≢false}
 use Rattle.minisign_external.specs.declared.public_keys.PublicKeyValue.{PublicKeyValue}
 use Rattle.minisign_install.specs.Decisions.{Options, Recorded, judge_record, judge_text}
-use Rattle.minisign_install.specs.Faults.{InstallFault, OtherSize, SameNumber}
+use Rattle.minisign_install.specs.Faults.{DigestMismatch, InstallFault, OtherSize, SameNumber}
 use Rattle.minisign_install.specs.Step.{Event, Done, InUse, Failed, RecordRead, SignatureRead, Operation}
 use Rattle.minisign_install.specs.Step.{Answered, PieceRead, TargetMissing, PieceCopied, State, after}
 use Rattle.minisign_install.specs.Step.{answer, begin, has_files, step}
@@ -15,95 +15,106 @@ use Rattle.minisign_install.specs.StepRuns.{synced_by}
 use Rattle.minisign_install.specs.StepRuns.{syncs}
 use Rattle.minisign_install.proofs.StepSafety.{Passed}
 use Rattle.minisign_lists.specs.declared.digests.ListedDigest.{ListedDigest}
-use Rattle.minisign_install.specs.Faults.{DigestMismatch}
 
 -- The files that must be synced in this state are synced.
-abbrev Holds : OnDisk → State → Type 0
-Holds d s = IsSynced s.due s d
+abbrev StateInvariant : OnDisk → State → Type 0
+StateInvariant d s = IsSynced s.due s d
 
-removal : (is : Bool) (s : State) (d : OnDisk) → IsSynced (if is then fsm.RemoveFiles else fsm.Rejected) s d
-removal true s d = tt
-removal false s d = tt
+-- After an error, the run removes its temporary files, or it has ended.
+after_rejection : (is : Bool) (s : State) (d : OnDisk)
+    → IsSynced (if is then fsm.RemoveFiles else fsm.Rejected) s d
+after_rejection true s d = tt
+after_rejection false s d = tt
 
-reject : (fault : InstallFault) (s : State) (d : OnDisk) → Holds d (fsm.reject fault s)
-reject fault s d = removal (has_files s.due) (fsm.reject fault s) d
+-- A lemma with the name of a function in Step.antt that chooses the next state, such as `reject`, proves the
+-- invariant for the result of this function. The lemmas with other names are helpers.
+reject : (fault : InstallFault) (s : State) (d : OnDisk) → StateInvariant d (fsm.reject fault s)
+reject fault s d = after_rejection (has_files s.due) (fsm.reject fault s) d
 
-either : (is : Bool) (x y : State) (d : OnDisk) → Holds d x → Holds d y → Holds d (if is then x else y)
-either true x y d one other = one
-either false x y d one other = other
+-- The result of a conditional has the property if both branches have it.
+both_branches : (is : Bool) (x y : State) (d : OnDisk) → StateInvariant d x → StateInvariant d y
+    → StateInvariant d (if is then x else y)
+both_branches true x y d one other = one
+both_branches false x y d one other = other
 
+-- The invariant holds for both operations that `install` can choose: WouldInstall with --check, and otherwise
+-- RemoveLeftovers.
 to_install : (check : Bool) (s : State) (d : OnDisk)
     → IsSynced (if check then fsm.WouldInstall else fsm.RemoveLeftovers) s d
 to_install true s d = tt
 to_install false s d = tt
 
-install : (s : State) (d : OnDisk) → Holds d (fsm.install s)
+install : (s : State) (d : OnDisk) → StateInvariant d (fsm.install s)
 install s d = to_install s.options.check (fsm.install s) d
 
-compare : (s : State) (d : OnDisk) → Holds d (fsm.compare s)
+compare : (s : State) (d : OnDisk) → StateInvariant d (fsm.compare s)
 compare s d =
-    either (fsm.is_newer s) _ _ d (install s d)
-    (either (is_some s.recorded.digest) _ _ d tt (either (fsm.is_rolling_back s) _ _ d (install s d) tt))
+    both_branches (fsm.is_newer s) _ _ d (install s d)
+    (both_branches (is_some s.recorded.digest) _ _ d tt
+    (both_branches (fsm.is_rolling_back s) _ _ d (install s d) tt))
 
-after_record : (s : State) (r : Result Recorded InstallFault) (d : OnDisk) → Holds d (fsm.after_record r s)
+after_record : (s : State) (r : Result Recorded InstallFault) (d : OnDisk)
+    → StateInvariant d (fsm.after_record r s)
 after_record s (Ok recorded) d = tt
 after_record s (Err fault) d = reject fault s d
 
 after_signature : (s : State) (r : Passed) (time : Option ℕ) (d : OnDisk)
-    → Holds d (fsm.after_signature r time s)
+    → StateInvariant d (fsm.after_signature r time s)
 after_signature s (Ok (t, signers)) time d = tt
 after_signature s (Err fault) time d = reject _ s d
 
 after_comment : (s : State) (fault : Option InstallFault) (d : OnDisk)
-    → Holds d (fsm.after_comment fault (record s { is_signed = true }))
+    → StateInvariant d (fsm.after_comment fault (record s { is_signed = true }))
 after_comment s None d =
-    either (is_some s.options.list) _ _ d tt (compare (record s { is_signed = true }) d)
+    both_branches (is_some s.options.list) _ _ d tt (compare (record s { is_signed = true }) d)
 after_comment s (Some fault) d = reject fault (record s { is_signed = true }) d
 
 next_key : (s : State) (signers : List PublicKeyValue) (d : OnDisk) → s.due ≡ fsm.CheckComment
-    → Holds d (fsm.next_key signers s)
+    → StateInvariant d (fsm.next_key signers s)
 next_key s [] d at = reject _ s d
 next_key s (v ∷ []) d at = reject _ s d
 next_key s (v ∷ u ∷ more) d at = rw at tt
 
 after_listing : (s : State) (listed : Result ListedDigest InstallFault) (d : OnDisk)
-    → Holds d (fsm.after_listing listed s)
+    → StateInvariant d (fsm.after_listing listed s)
 after_listing s (Ok digest) d = compare s d
 after_listing s (Err fault) d = reject fault s d
 
-after_data : (s : State) (listed : Bool) (d : OnDisk) → Holds d (fsm.after_data listed s)
+after_data : (s : State) (listed : Bool) (d : OnDisk) → StateInvariant d (fsm.after_data listed s)
 after_data s true d = tt
 after_data s false d = reject DigestMismatch s d
 
-after_digest : (s : State) (accepted : Bool) (d : OnDisk) → Holds d (fsm.after_digest accepted s)
-after_digest s accepted d = either (not accepted && fsm.is_rolling_back s) _ _ d (install s d) tt
+after_digest : (s : State) (accepted : Bool) (d : OnDisk) → StateInvariant d (fsm.after_digest accepted s)
+after_digest s accepted d = both_branches (not accepted && fsm.is_rolling_back s) _ _ d (install s d) tt
 
 target_is_update : (check : Bool) (s : State) (d : OnDisk) → s.options.check ≡ check
     → IsSynced (if check then fsm.AlreadyInstalled else fsm.SyncTarget) s d
 target_is_update true s d is = inl is
 target_is_update false s d is = tt
 
-after_target : (s : State) (accepted : Bool) (d : OnDisk) → Holds d (fsm.after_target accepted s)
+after_target : (s : State) (accepted : Bool) (d : OnDisk) → StateInvariant d (fsm.after_target accepted s)
 after_target s true d = target_is_update s.options.check (fsm.after_target true s) d refl
 after_target s false d =
-    either (s.is_recorded || s.options.again) _ _ d (install s d) (reject SameNumber s d)
+    both_branches (s.is_recorded || s.options.again) _ _ d (install s d) (reject SameNumber s d)
 
 after_piece : (k : ℕ) (s : State) (left : Option ℕ) (d : OnDisk) → s.due ≡ fsm.CopyData
-    → Holds d (fsm.after_piece k left s)
+    → StateInvariant d (fsm.after_piece k left s)
 after_piece k s None d at = rw at tt
-after_piece k s (Some left) d at = either (nat_le k left) _ _ d (rw at tt) (reject OtherSize s d)
+after_piece k s (Some left) d at = both_branches (nat_le k left) _ _ d (rw at tt) (reject OtherSize s d)
 
-after_copy : (s : State) (left : Option ℕ) (d : OnDisk) → Holds d (fsm.after_copy left s)
+after_copy : (s : State) (left : Option ℕ) (d : OnDisk) → StateInvariant d (fsm.after_copy left s)
 after_copy s None d = tt
-after_copy s (Some left) d = either (left == 0) _ _ d tt (reject OtherSize s d)
+after_copy s (Some left) d = both_branches (left == 0) _ _ d tt (reject OtherSize s d)
 
-holds_if_some : (is : Bool) (t : State) (d : OnDisk) → Holds d t
-    → IfSome (if is then Some t else None) (Holds d)
+-- Nothing has to be proved if the event does not fit.
+holds_if_some : (is : Bool) (t : State) (d : OnDisk) → StateInvariant d t
+    → IfSome (if is then Some t else None) (StateInvariant d)
 holds_if_some true t d holds = holds
 holds_if_some false t d holds = tt
 
+-- An operation keeps the invariant.
 op_keeps : (op : Operation) (e : Event) (s : State) (d : OnDisk) → s.due ≡ op → IsSynced op s d
-    → IfSome (after op e s) (Holds (syncs op e d))
+    → IfSome (after op e s) (StateInvariant (syncs op e d))
 op_keeps fsm.Nothing (Failed f) s d at is = tt
 op_keeps fsm.Installed (Failed f) s d at is = tt
 op_keeps fsm.AlreadyInstalled (Failed f) s d at is = tt
@@ -143,18 +154,21 @@ op_keeps fsm.SyncFileName Done s d at (whole, file, name) = (whole, file, name, 
 op_keeps op Done s d at is = tt
 op_keeps op e s d at is = tt
 
-answer_keeps : (s : State) (next : Option State) (d : OnDisk) → is_some next ≡ true → IfSome next (Holds d)
-    → Holds d (answer s next).1
+-- The invariant holds for the state that `step` returns, if the event fits.
+answer_keeps : (s : State) (next : Option State) (d : OnDisk) → is_some next ≡ true
+    → IfSome next (StateInvariant d)
+    → StateInvariant d (answer s next).1
 answer_keeps s (Some t) d fits holds = holds
 answer_keeps s None d fits holds = absurd (true≢false (sym fits))
 
-run_synced : (n : ℕ) (s : State) (events : List Event) (t : State) (d : OnDisk) → Holds d s
-    → IsRun (λ n s e. EventFits s e) n s events t → Holds (synced_by s events d) t
+run_synced : (n : ℕ) (s : State) (events : List Event) (t : State) (d : OnDisk) → StateInvariant d s
+    → IsRun (λ n s e. EventFits s e) n s events t → StateInvariant (synced_by s events d) t
 run_synced n s [] t d holds is = rw is holds
 run_synced n s (e ∷ more) t d holds (fits, run) =
     run_synced (count n e) (step s e).1 more t (syncs s.due e d)
     (answer_keeps s (after s.due e s) (syncs s.due e d) fits (op_keeps s.due e s d refl holds)) run
 
+-- The invariant holds when a run begins.
 begins : (check : Bool) (o : Options)
     → IsSynced (if check then fsm.ReadRecord else fsm.Lock) (begin o) nothing_synced
 begins true o = tt

@@ -11,8 +11,8 @@ use Rattle.minisign_install.specs.Histories.{AllEvents, IsAtTime, is_past_commen
 use Rattle.minisign_install.specs.Step.{Event, Operation, State, after, answer, begin, step}
 use Rattle.minisign_install.specs.Step as fsm
 use Rattle.minisign_install.specs.StepRuns.{World, count}
-use Rattle.minisign_install.proofs.SafeCalls.{Invariant, begins, knows, next}
-use Rattle.minisign_install.proofs.StepSafety.{Known, Passed, text_parsed}
+use Rattle.minisign_install.proofs.SafeCalls.{Invariant, begins, state_invariant, next}
+use Rattle.minisign_install.proofs.StepSafety.{InvariantAt, Passed, text_parsed}
 use Rattle.minisign_lists.specs.declared.digests.ListedDigest.{ListedDigest}
 use Rattle.minisign_install.specs.Faults.{DigestMismatch}
 
@@ -29,6 +29,7 @@ module _ (w : World) (o : Options) (time : Option ℕ) where
       (text : SignatureTextRecord) → w.text ≡ Ok text
       → s.fault ≡ comment_fault o s.recorded.version time text.comments.trusted
 
+  -- The invariant at each operation.
   abbrev TimelyAt : Operation → State → Type 0
   TimelyAt fsm.Nothing s = ⊤
   TimelyAt fsm.Lock s = ⊤
@@ -38,40 +39,48 @@ module _ (w : World) (o : Options) (time : Option ℕ) where
   TimelyAt fsm.Rejected s = ⊤
   TimelyAt op s = IsTimely s
 
-  abbrev Holds : State → Type 0
-  Holds s = TimelyAt s.due s
+  -- The invariant of a state, for the operation that is due in it.
+  abbrev StateInvariant : State → Type 0
+  StateInvariant s = TimelyAt s.due s
 
-  rejected : (is : Bool) (fault : InstallFault) (s : State)
-      → Holds (record s { due = if is then fsm.RemoveFiles else fsm.Rejected; error = Some fault })
-  rejected true fault s = tt
-  rejected false fault s = tt
+  -- After an error, the run removes its temporary files, or it has ended.
+  after_rejection : (is : Bool) (fault : InstallFault) (s : State)
+      → StateInvariant (record s { due = if is then fsm.RemoveFiles else fsm.Rejected; error = Some fault })
+  after_rejection true fault s = tt
+  after_rejection false fault s = tt
 
-  reject : (fault : InstallFault) (s : State) → Holds (fsm.reject fault s)
-  reject fault s = rejected (fsm.has_files s.due) fault s
+  -- The next lemmas have the names of the functions in Step.antt that choose the next state. Each proves the
+  -- invariant after its function.
+  reject : (fault : InstallFault) (s : State) → StateInvariant (fsm.reject fault s)
+  reject fault s = after_rejection (fsm.has_files s.due) fault s
 
-  begins_now : (check : Bool) (s : State) → IsTimely s
-      → Holds (record s { due = if check then fsm.WouldInstall else fsm.RemoveLeftovers; read = [] })
-  begins_now true s is = is
-  begins_now false s is = is
+  -- The operation after `install`, in a check and in an installation.
+  to_install : (check : Bool) (s : State) → IsTimely s
+      → StateInvariant (record s { due = if check then fsm.WouldInstall else fsm.RemoveLeftovers; read = [] })
+  to_install true s is = is
+  to_install false s is = is
 
-  install : (s : State) → IsTimely s → Holds (fsm.install s)
-  install s is = begins_now s.options.check s is
+  install : (s : State) → IsTimely s → StateInvariant (fsm.install s)
+  install s is = to_install s.options.check s is
 
-  either : (is : Bool) (x y : State) → Holds x → Holds y → Holds (if is then x else y)
-  either true x y one other = one
-  either false x y one other = other
+  -- The result of a conditional has the property if both branches have it.
+  both_branches : (is : Bool) (x y : State) → StateInvariant x → StateInvariant y
+      → StateInvariant (if is then x else y)
+  both_branches true x y one other = one
+  both_branches false x y one other = other
 
-  compare : (s : State) → IsTimely s → Holds (fsm.compare s)
+  compare : (s : State) → IsTimely s → StateInvariant (fsm.compare s)
   compare s is =
-      either (fsm.is_newer s) _ _ (install s is)
-      (either (is_some s.recorded.digest) _ _ is (either (fsm.is_rolling_back s) _ _ (install s is) is))
+      both_branches (fsm.is_newer s) _ _ (install s is)
+      (both_branches (is_some s.recorded.digest) _ _ is
+      (both_branches (fsm.is_rolling_back s) _ _ (install s is) is))
 
-  after_record : (r : Result Recorded InstallFault) (s : State) → Holds (fsm.after_record r s)
+  after_record : (r : Result Recorded InstallFault) (s : State) → StateInvariant (fsm.after_record r s)
   after_record (Ok r) s = tt
   after_record (Err fault) s = reject fault s
 
   after_signature : (r : Passed) (other : Option ℕ) (s : State) → s.options ≡ o → other ≡ time
-      → judge_text o w.text ≡ r → Holds (fsm.after_signature r other s)
+      → judge_text o w.text ≡ r → StateInvariant (fsm.after_signature r other s)
   after_signature (Ok (t, keys)) other s same now passed =
       let parsed = text_parsed w o w.text t keys passed in
       λ text is.
@@ -81,54 +90,57 @@ module _ (w : World) (o : Options) (time : Option ℕ) where
   after_signature (Err fault) other s same now passed = reject _ s
 
   after_comment : (fault : Option InstallFault) (s : State) → IsTimely s
-      → Holds (fsm.after_comment fault (record s { is_signed = true }))
+      → StateInvariant (fsm.after_comment fault (record s { is_signed = true }))
   after_comment None s is =
-      either (is_some s.options.list) _ _ is (compare (record s { is_signed = true }) is)
+      both_branches (is_some s.options.list) _ _ is (compare (record s { is_signed = true }) is)
   after_comment (Some fault) s is = reject fault (record s { is_signed = true })
 
   next_key : (signers : List PublicKeyValue) (s : State) → s.due ≡ fsm.CheckComment → IsTimely s
-      → Holds (fsm.next_key signers s)
+      → StateInvariant (fsm.next_key signers s)
   next_key [] s at is = reject _ s
   next_key (v ∷ []) s at is = reject _ s
   next_key (v ∷ u ∷ more) s at is = rw at is
 
   after_listing : (listed : Result ListedDigest InstallFault) (s : State) → IsTimely s
-      → Holds (fsm.after_listing listed s)
+      → StateInvariant (fsm.after_listing listed s)
   after_listing (Ok digest) s is = compare s is
   after_listing (Err fault) s is = reject fault s
 
-  after_data : (listed : Bool) (s : State) → IsTimely s → Holds (fsm.after_data listed s)
+  after_data : (listed : Bool) (s : State) → IsTimely s → StateInvariant (fsm.after_data listed s)
   after_data true s is = is
   after_data false s is = reject DigestMismatch s
 
-  after_digest : (accepted : Bool) (s : State) → IsTimely s → Holds (fsm.after_digest accepted s)
-  after_digest accepted s is = either (not accepted && fsm.is_rolling_back s) _ _ (install s is) is
+  after_digest : (accepted : Bool) (s : State) → IsTimely s → StateInvariant (fsm.after_digest accepted s)
+  after_digest accepted s is = both_branches (not accepted && fsm.is_rolling_back s) _ _ (install s is) is
 
   target_is_update : (check : Bool) (s : State) → IsTimely s
-      → Holds (fsm.go (if check then fsm.AlreadyInstalled else fsm.SyncTarget) s)
+      → StateInvariant (fsm.go (if check then fsm.AlreadyInstalled else fsm.SyncTarget) s)
   target_is_update true s is = is
   target_is_update false s is = is
 
-  after_target : (accepted : Bool) (s : State) → IsTimely s → Holds (fsm.after_target accepted s)
+  after_target : (accepted : Bool) (s : State) → IsTimely s → StateInvariant (fsm.after_target accepted s)
   after_target true s is = target_is_update s.options.check s is
   after_target false s is =
-      either (s.is_recorded || s.options.again) _ _ (install s is) (reject SameNumber s)
+      both_branches (s.is_recorded || s.options.again) _ _ (install s is) (reject SameNumber s)
 
   after_piece : (n : ℕ) (left : Option ℕ) (s : State) → s.due ≡ fsm.CopyData → IsTimely s
-      → Holds (fsm.after_piece n left s)
+      → StateInvariant (fsm.after_piece n left s)
   after_piece n None s at is = rw at is
-  after_piece n (Some left) s at is = either (nat_le n left) _ _ (rw at is) (reject OtherSize s)
+  after_piece n (Some left) s at is = both_branches (nat_le n left) _ _ (rw at is) (reject OtherSize s)
 
-  after_copy : (left : Option ℕ) (s : State) → IsTimely s → Holds (fsm.after_copy left s)
+  after_copy : (left : Option ℕ) (s : State) → IsTimely s → StateInvariant (fsm.after_copy left s)
   after_copy None s is = is
-  after_copy (Some left) s is = either (left == 0) _ _ is (reject OtherSize s)
+  after_copy (Some left) s is = both_branches (left == 0) _ _ is (reject OtherSize s)
 
-  holds_if_some : (is : Bool) (t : State) → Holds t → IfSome (if is then Some t else None) Holds
+  -- Nothing has to be proved if the event does not fit.
+  holds_if_some : (is : Bool) (t : State) → StateInvariant t
+      → IfSome (if is then Some t else None) StateInvariant
   holds_if_some true t holds = holds
   holds_if_some false t holds = tt
 
-  op_keeps : (op : Operation) (e : Event) (s : State) (old new : Snapshot) → s.due ≡ op → Known w o op s
-      → TimelyAt op s → Performs w s op e old new → IsAtTime time e → IfSome (after op e s) Holds
+  -- An operation keeps the invariant.
+  op_keeps : (op : Operation) (e : Event) (s : State) (old new : Snapshot) → s.due ≡ op → InvariantAt w o op s
+      → TimelyAt op s → Performs w s op e old new → IsAtTime time e → IfSome (after op e s) StateInvariant
   op_keeps fsm.Nothing (fsm.Failed f) s old new at known is done now = tt
   op_keeps fsm.Installed (fsm.Failed f) s old new at known is done now = tt
   op_keeps fsm.AlreadyInstalled (fsm.Failed f) s old new at known is done now = tt
@@ -179,34 +191,41 @@ module _ (w : World) (o : Options) (time : Option ℕ) where
   op_keeps fsm.SyncFileName fsm.Done s old new at known is done now = is
   op_keeps op e s old new at known is done now = tt
 
-  moved : (s : State) (next : Option State) → is_some next ≡ true → IfSome next Holds
-      → Holds (answer s next).1
-  moved s (Some t) is holds = holds
-  moved s None is holds = absurd (true≢false (sym is))
+  -- The invariant holds for the state that `step` returns, if the event fits.
+  answer_keeps : (s : State) (next : Option State) → is_some next ≡ true → IfSome next StateInvariant
+      → StateInvariant (answer s next).1
+  answer_keeps s (Some t) is holds = holds
+  answer_keeps s None is holds = absurd (true≢false (sym is))
 
-  timely_from : (n : ℕ) (s : State) (m : Snapshot) (calls : List Call) (t : State) (end : Snapshot)
-      → Invariant w o ⊤ ⊥ n s m → Holds s → Applies w s m calls t end → AllEvents (IsAtTime time) calls
-      → Holds t × ((k : ℕ) × Invariant w o ⊤ ⊥ k t end)
-  timely_from n s m [] t end known holds (is, same) now = (rw is holds, (n, rw (is, same) known))
-  timely_from n s m (c ∷ more) t end known holds (others, fits, is, run) (now, rest) =
-      timely_from (count n c.event) (step s c.event).1 c.after more t end
+  -- The invariant holds after a run in which the signature file is read at this time.
+  invariant_after : (n : ℕ) (s : State) (m : Snapshot) (calls : List Call) (t : State) (end : Snapshot)
+      → Invariant w o ⊤ ⊥ n s m → StateInvariant s → Applies w s m calls t end
+      → AllEvents (IsAtTime time) calls
+      → StateInvariant t × ((k : ℕ) × Invariant w o ⊤ ⊥ k t end)
+  invariant_after n s m [] t end known holds (is, same) now = (rw is holds, (n, rw (is, same) known))
+  invariant_after n s m (c ∷ more) t end known holds (others, fits, is, run) (now, rest) =
+      invariant_after (count n c.event) (step s c.event).1 c.after more t end
       (next w o ⊤ ⊥ n s m c known others (λ q. absurd q) fits is (λ found. tt))
-      (moved s (after s.due c.event s) fits
-      (op_keeps s.due c.event s c.before c.after refl (knows w o ⊤ ⊥ n s m known) holds is now)) run rest
+      (answer_keeps s (after s.due c.event s) fits
+      (op_keeps s.due c.event s c.before c.after refl (state_invariant w o ⊤ ⊥ n s m known) holds is now)) run
+      rest
 
-  starts : (check : Bool) (s : State) → TimelyAt (if check then fsm.ReadRecord else fsm.Lock) s
-  starts true s = tt
-  starts false s = tt
+  -- The invariant holds when a run begins.
+  invariant_at_begin : (check : Bool) (s : State) → TimelyAt (if check then fsm.ReadRecord else fsm.Lock) s
+  invariant_at_begin true s = tt
+  invariant_at_begin false s = tt
 
   judged_at : (op : Operation) (s : State) → TimelyAt op s → op ≡ fsm.CheckComment → IsTimely s
   judged_at fsm.CheckComment s holds is = holds
   judged_at op s holds is = cc is
 
+  -- If the comment is accepted, it is not rejected at this time.
   fault_is : (s : State) → IsTimely s → s.fault ≡ None → (text : SignatureTextRecord) → w.text ≡ Ok text
       → comment_fault o s.recorded.version time text.comments.trusted ≡ None
   fault_is s timely none text is = sym (timely text is) ∙ none
 
-  accepted_at : (op : Operation) (s : State) → TimelyAt op s → Known w o op s → is_past_comment op ≡ true
+  accepted_at : (op : Operation) (s : State) → TimelyAt op s → InvariantAt w o op s
+      → is_past_comment op ≡ true
       → (text : SignatureTextRecord) → w.text ≡ Ok text
       → comment_fault o s.recorded.version time text.comments.trusted ≡ None
   accepted_at fsm.ReadList s holds known is = fault_is s holds known.0.1
@@ -237,22 +256,23 @@ module _ (w : World) (o : Options) (time : Option ℕ) where
 
 -- When the question about the comment is due, `fault` is the result of checking the comment at the time that
 -- was passed in.
-pub judged_in_time : (w : World) (o : Options) (m : Snapshot) (calls : List Call) (t : State) (end : Snapshot)
+pub judged_at_reported_time : (w : World) (o : Options) (m : Snapshot) (calls : List Call) (t : State)
+    (end : Snapshot)
     (time : Option ℕ) → Applies w (begin o) m calls t end → AllEvents (IsAtTime time) calls
     → t.due ≡ fsm.CheckComment → (text : SignatureTextRecord) → w.text ≡ Ok text
     → t.fault ≡ comment_fault o t.recorded.version time text.comments.trusted
-judged_in_time w o m calls t end time run now is =
-    let (holds, (k, known)) = timely_from w o time 0 (begin o) m calls t end (begins w o ⊤ ⊥ m)
-    (starts w o time o.check (begin o)) run now in
+judged_at_reported_time w o m calls t end time run now is =
+    let (holds, (k, known)) = invariant_after w o time 0 (begin o) m calls t end (begins w o ⊤ ⊥ m)
+    (invariant_at_begin w o time o.check (begin o)) run now in
     judged_at w o time t.due t holds is
 
 -- If the run is past the check of the comment, the comment is not rejected at the time that was passed in.
-pub accepted_in_time : (w : World) (o : Options) (m : Snapshot) (calls : List Call) (t : State)
+pub accepted_at_reported_time : (w : World) (o : Options) (m : Snapshot) (calls : List Call) (t : State)
     (end : Snapshot)
     (time : Option ℕ) → Applies w (begin o) m calls t end → AllEvents (IsAtTime time) calls
     → is_past_comment t.due ≡ true → (text : SignatureTextRecord) → w.text ≡ Ok text
     → comment_fault o t.recorded.version time text.comments.trusted ≡ None
-accepted_in_time w o m calls t end time run now is =
-    let (holds, (k, known)) = timely_from w o time 0 (begin o) m calls t end (begins w o ⊤ ⊥ m)
-    (starts w o time o.check (begin o)) run now in
-    accepted_at w o time t.due t holds (knows w o ⊤ ⊥ k t end known) is
+accepted_at_reported_time w o m calls t end time run now is =
+    let (holds, (k, known)) = invariant_after w o time 0 (begin o) m calls t end (begins w o ⊤ ⊥ m)
+    (invariant_at_begin w o time o.check (begin o)) run now in
+    accepted_at w o time t.due t holds (state_invariant w o ⊤ ⊥ k t end known) is

@@ -32,6 +32,7 @@ use Rattle.minisign_install.proofs.Listings.{update_digest}
 
 -- == Versions and keys in records ==
 
+-- A version number is below 2^64.
 number_bound : (text : List ℕ) (n : ℕ) → number_in text ≡ Some n → n < 2 ^ 64
 number_bound text n is = (reads_number text n is).bound
 
@@ -57,6 +58,7 @@ whole_key false r key whole wholes = whole
 whole_key true None key whole wholes = whole
 whole_key true (Some k) key whole wholes = wholes k refl
 
+-- A key in a record has 32 bytes.
 decoded_length : (text : List ℕ) (r : Result (List ℕ) FromHexError) (key : List ℕ)
     → decode_sized text 32 ≡ r → decoded r ≡ Some key → length key ≡ 32
 decoded_length text (Err e) key is has = absurd (none-some key has)
@@ -105,6 +107,7 @@ read_key o None key is = no_key o.first _ key is
 read_key o (Some bytes) key is = judged_key o bytes (recorded_version o.numbering bytes) key is
 
 module _ (w : World) (o : Options) (accepts_whole : AcceptsWholeKeys w.accepts) where
+  -- The key of the new record has 32 bytes, and its version number is below 2^64 (next_bound).
   next_key_length : (s : State) → IsUpdate w o s → length (new_key s) ≡ 32
   next_key_length s update =
       whole_key (is_rolling_back s) s.recorded.key (key_of s.signers)
@@ -159,11 +162,13 @@ module _ (w : World) (o : Options) (accepts_whole : AcceptsWholeKeys w.accepts) 
   -- == A step ==
 
   module _ (k : ℕ) where
+    -- The record that the run reads has a version number that is at least k.
     abbrev ComparesVersion : Type 0
     ComparesVersion = IsVersionFrom o.numbering k w.found_record
 
     module _ (compares : (bytes : List ℕ) → w.found_record ≡ Some bytes → (o.first || o.new_key) ≡ true
         → names_other_key o bytes ≡ false) where
+      -- Then the run compares the update with a recorded version.
       version_compared : (found : Option (List ℕ)) → w.found_record ≡ found → ComparesVersion
           → ComparesNoVersion o found → ⊥
       version_compared None at (bytes, version, is, reads, least) compares_none =
@@ -174,6 +179,7 @@ module _ (w : World) (o : Options) (accepts_whole : AcceptsWholeKeys w.accepts) 
       version_compared (Some other) at (bytes, version, is, reads, least) (inr (given, others)) =
           true≢false (sym others ∙ compares other at given)
 
+      -- The version number that is recorded next is at least k, because the recorded one is.
       no_less : (s : State) → IsUpdate w o s → ComparesVersion → (r : Option ℕ) → s.recorded.version ≡ r
           → k ≤ new_version s
       no_less s update from None none =
@@ -185,6 +191,7 @@ module _ (w : World) (o : Options) (accepts_whole : AcceptsWholeKeys w.accepts) 
           (sym reads ∙ ap (recorded_version o.numbering) same ∙ holds) in
           omega (arith, least, more, equal)
 
+      -- The record of an update has a version number that is at least k.
       recorded_from : (found : Option (List ℕ)) → ComparesVersion → IsUpdateRecord w o found
           → IsVersionFrom o.numbering k found
       recorded_from found from (s, update, is) = (
@@ -201,6 +208,7 @@ module _ (w : World) (o : Options) (accepts_whole : AcceptsWholeKeys w.accepts) 
       either_from old found has (inl is) = has found is
       either_from old found has (inr (from, update)) = recorded_from found from update
 
+      -- A safe operation does not decrease the recorded version.
       keeps_version : (old new : Snapshot) → HasVersionFrom o.numbering k old
           → Safe w o ComparesVersion ⊥ old new
           → HasVersionFrom o.numbering k new
@@ -211,6 +219,7 @@ module _ (w : World) (o : Options) (accepts_whole : AcceptsWholeKeys w.accepts) 
       remains (Some file) = (file.bytes, refl, λ synced. refl)
       remains None = refl
 
+      -- No run of an application decreases it.
       run_keeps : (n : ℕ) (s : State) (m : Snapshot) (calls : List Call) (t : State) (end : Snapshot)
           → Invariant w o ComparesVersion ⊥ n s m → HasVersionFrom o.numbering k m → Applies w s m calls t end
           → OthersKeepVersion o.numbering m calls → HasVersionFrom o.numbering k end
@@ -228,6 +237,7 @@ module _ (w : World) (o : Options) (accepts_whole : AcceptsWholeKeys w.accepts) 
 
 -- == Histories ==
 
+-- No run in a history decreases it.
 updater_keeps : (numbering : Numbering) (r : UpdaterRun numbering) → KeepsVersion numbering r.begun r.ended
 updater_keeps numbering r k has =
     let o = r.options in
@@ -245,6 +255,7 @@ synced_stays : (place : Option File) (found : Option (List ℕ)) → IsSynced pl
 synced_stays (Some file) found synced (bytes, is, same) = is ∙ ap (λ x. Some x) (same synced)
 synced_stays None found synced is = is
 
+-- What is found at the record after a crash, and after further crashes, could be found there before.
 found_after_crash : (old new : Snapshot) (left : List (Option File)) (found : Option (List ℕ))
     → Crashes old new
     → new.recorded_left ≡ left → CrashMayLeaveOneOf (new.recorded ∷ left) found → RecordMayBe old found
@@ -254,6 +265,7 @@ found_after_crash old new [] found crash none (inr is) = absurd is
 found_after_crash old new (x ∷ more) found crash none is =
     let empty : x ∷ more ≡ [] = sym none ∙ crash.record_sure in cc empty
 
+-- A crash does not decrease the recorded version.
 crash_keeps : (numbering : Numbering) (old new : Snapshot) → Crashes old new → KeepsVersion numbering old new
 crash_keeps numbering old new crash k has found is =
     has found (found_after_crash old new new.recorded_left found crash refl is)

@@ -201,11 +201,11 @@ abbrev pub CrashMayLeaveOneOf : List (Option File) → Option (List ℕ) → Typ
 CrashMayLeaveOneOf [] found = ⊥
 CrashMayLeaveOneOf (file ∷ more) found = CrashMayLeave file found ⊎ CrashMayLeaveOneOf more found
 
--- A process may find these bytes, or no file, at the target (or at the record), now or after a crash at this
--- time.
+-- A process may find these bytes, or no file, at the target, now or after a crash at this time.
 abbrev pub TargetMayBe : Snapshot → Option (List ℕ) → Type 0
 TargetMayBe m found = CrashMayLeaveOneOf (m.target ∷ m.target_left) found
 
+-- A process may find these bytes, or no file, at the record, now or after a crash at this time.
 abbrev pub RecordMayBe : Snapshot → Option (List ℕ) → Type 0
 RecordMayBe m found = CrashMayLeaveOneOf (m.recorded ∷ m.recorded_left) found
 
@@ -225,6 +225,6 @@ pub record Crashes (old new : Snapshot) : Type 0 where
 
 -- == Checks ==
 
--- Nothing has changed except the number of the file that was read.
+-- Nothing has changed except the number of the file that was read (`opened`).
 abbrev pub LeavesAll : Snapshot → Snapshot → Type 0
 LeavesAll old new = new ≡ record old { opened = new.opened }

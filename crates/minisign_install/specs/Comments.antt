@@ -61,26 +61,29 @@ folded text = map to_ascii_lowercase (filter (λ b. not (is_ascii_whitespace b))
 abbrev pub expiry_in : Bool → List ℕ → Option (List ℕ)
 expiry_in must field = strip expiry_label (if must then folded field else field)
 
--- The values of all these fields.
+-- The values of all fields of the comment that say when the update expires.
 abbrev pub expiries : Bool → List ℕ → List (List ℕ)
 expiries must comment = filter_map (expiry_in must) (fields comment)
 
--- The comment has exactly one of these fields, it is spelled exactly `expires:`, and its value is this time.
+-- The comment has exactly one field that says when the update expires, its label is spelled exactly
+-- `expires:`, and its value is this time.
 pub record ExpiresAt (must : Bool) (comment : List ℕ) (until : ℕ) : Type 0 where
   pub value : List ℕ
   pub single_value : length (expiries must comment) ≡ 1
   pub labelled : value_of expiry_label comment ≡ Some value
   pub number : IsNumberText value until
 
--- The update has not expired at this time. If `must` is false, the comment may also have no such field.
+-- The update has not expired at this time. If `must` is false, the comment may also have no field that says
+-- when the update expires.
 abbrev pub IsUnexpired : Bool → ℕ → List ℕ → Type 0
 IsUnexpired must time comment =
     ((must ≡ false) × (expiries must comment ≡ []))
     ⊎ ((until : ℕ) × ExpiresAt must comment until × (time < until))
 
--- These fields are rejected at this time, and `e` says why: the update has expired (Expired); or such a field
--- is required and missing (NoExpiry); or there are several, or one that is not spelled exactly `expires:` or
--- whose value is not a number (BadExpiry).
+-- The comment is rejected at this time because of the fields that say when the update expires. `e` is the
+-- reason: the update has expired (Expired); or such a field is required and missing (NoExpiry); or there are
+-- several of them, or a single one that is not spelled exactly `expires:` or whose value is not a number
+-- (BadExpiry).
 abbrev pub IsExpiryRefused : Bool → ℕ → List ℕ → InstallFault → Type 0
 IsExpiryRefused must time comment e =
     ((e ≡ Expired) × ((until : ℕ) × ExpiresAt must comment until × (until ≤ time)))

@@ -26,11 +26,12 @@ use Rattle.minisign_install.specs.RecordTexts.{record_text}
 use Rattle.minisign_lists.specs.declared.lines.LongDigest.{LongDigest}
 
 -- The options of a run. `keys` are the public keys that were given, one or two. `file` is the name that the
--- trusted comment must contain, and `numbering` its field with the version number. `list` is None if the
--- signature is that of the data. If `list` is Some, the signature is that of a signed list of files, which
--- must contain the data, and the value says which hash function, if any, 128 digits stand for on a line of
--- the list that does not name one. Each other field says whether the option of minisign-install with this
--- name is given, such as --must-expire.
+-- trusted comment must contain. `numbering` says which field of the trusted comment has the version number:
+-- `timestamp:` or `version:`. `list` is None if the signature is that of the data. If `list` is Some, the
+-- signature is that of a list of files, which must have the digest of the data. The list may have lines with
+-- a digest of 128 hexadecimal digits that do not name a hash function; the value in `list` is the hash
+-- function of these lines, or says that they are malformed. Each other field is true if the option of
+-- minisign-install with its name is given, such as --must-expire.
 pub record Options : Type 0 where
   pub keys : List PublicKeyValue
   pub file : List ℕ
@@ -43,20 +44,23 @@ pub record Options : Type 0 where
   pub roll_back : Bool
   pub list : Option LongDigest
 
--- --first installs without a record, and --new-key and --roll-back need one, so they must not be combined.
+-- --first must not be combined with --new-key or --roll-back: --first installs even if there is no record,
+-- and the other two need one. --new-key and --roll-back may be combined.
 abbrev pub fit_together : Options → Bool
 fit_together o = not (o.first && (o.new_key || o.roll_back))
 
 -- == Numbers ==
 
--- The text is a number: decimal digits without a sign, below 2^64.
+-- Each character is a decimal digit.
 abbrev pub are_digits : List ℕ → Bool
 are_digits text = list_all (λ c. nat_lt (digit_value c) 10) text
 
+-- The text is a number: decimal digits without a sign, below 2^64.
 abbrev pub is_number : List ℕ → Bool
 is_number [] = false
 is_number text = are_digits text && nat_lt (digits_value 10 text) (2 ^ 64)
 
+-- The number in the text, if it is one.
 abbrev pub number_in : List ℕ → Option ℕ
 number_in text = if is_number text then Some (digits_value 10 text) else None
 
@@ -83,7 +87,7 @@ abbrev pub nothing_recorded : Recorded
 nothing_recorded = record { version = None; key = None; digest = None }
 
 -- The version number of a record, if it has one for this field. A number without a label, as older versions
--- wrote it, is valid for both fields.
+-- of the installer wrote it, is valid for both fields.
 abbrev pub recorded_version : Numbering → List ℕ → Option ℕ
 recorded_version numbering bytes =
     number_in (unwrap_or (strip (number_label numbering) (record_text bytes)) (record_text bytes))
@@ -100,10 +104,10 @@ record_fault numbering bytes =
     foreign_record_fault (other_field numbering)
     else DamagedRecord
 
--- The contents of a record with this version number (or None) for the field of the options, or the error with
--- which the record is rejected. A record that names a key which was not given is ignored with --first and
--- with --new-key. A record without a version number for the field, and a missing record, are ignored with
--- --first only.
+-- The contents of the record with these bytes, or the error with which the record is rejected. The version
+-- number is that of the record for the field `numbering` of the options; it is None if the record has no
+-- number for this field. Such a record is ignored with --first, and otherwise rejected. A record that names a
+-- key which was not given is ignored with --first and with --new-key.
 abbrev pub judge_version : Options → List ℕ → Option ℕ → Result Recorded InstallFault
 judge_version o bytes (Some n) =
     if (o.first || o.new_key) && names_other_key o bytes then Ok nothing_recorded
@@ -111,6 +115,8 @@ judge_version o bytes (Some n) =
 judge_version o bytes None =
     if o.first then Ok nothing_recorded else Err (record_fault o.numbering bytes)
 
+-- The contents of the record, from its bytes, or the error with which it is rejected. If there is no record
+-- (None), the run continues without one with --first, and otherwise the error is NoRecord.
 abbrev pub judge_record : Options → Option (List ℕ) → Result Recorded InstallFault
 judge_record o (Some bytes) = judge_version o bytes (recorded_version o.numbering bytes)
 judge_record o None = if o.first then Ok nothing_recorded else Err NoRecord
@@ -123,9 +129,9 @@ last_key_id [] = []
 last_key_id (v ∷ []) = v.key_id
 last_key_id (v ∷ more) = last_key_id more
 
--- The checks of a parsed signature file that need no Ed25519. The list has the given keys with the key ID of
--- the signature. The result is the signature file with these keys, or the error of the first check that
--- fails.
+-- The checks of a parsed signature file that need no Ed25519. `signers` are those of the given keys that have
+-- the key ID of the signature. The result is the signature file with these keys, or the error of the first
+-- check that fails.
 abbrev pub judge_keys : Options → List PublicKeyValue → SignatureTextRecord
     → Result (SignatureTextRecord × List PublicKeyValue) Fault
 judge_keys o [] t = Err (Named (named.DifferentKeyIds t.signature.keynum (last_key_id o.keys)))
@@ -148,16 +154,20 @@ judge_text o text =
 abbrev pub version_in : Numbering → List ℕ → Option ℕ
 version_in numbering comment = number_of (value_of (number_label numbering) comment)
 
+-- None if the check passes, otherwise this error.
 abbrev pub unless : Bool → InstallFault → Option InstallFault
 unless holds fault = if holds then None else Some fault
 
+-- The field with the name of the file exists, and has this name.
 abbrev pub is_named : List ℕ → Option (List ℕ) → Bool
 is_named file (Some name) = bytes_eq name file
 is_named file None = false
 
--- The error if the fields `expires:` are rejected at this time, in seconds since the beginning of 1970. None
--- is a time before 1970, at which every update that expires has expired. The list has the values of all
--- fields `expires:`, and `until` is the number in the first one that is spelled exactly so.
+-- The error if the expiry fields are rejected at this time, in seconds since the beginning of 1970. None is a
+-- time before 1970, at which every update that expires has expired. The list has the values of all expiry
+-- fields, as `expiries` collects them: with --must-expire, also those whose label differs from `expires:` in
+-- case or white space. `until` is the number in the first field whose label is exactly `expires:`. So a
+-- single field with another spelling has no `until`, and is rejected with BadExpiry.
 abbrev pub expiry_fault : Bool → Option ℕ → List (List ℕ) → Option ℕ → Option InstallFault
 expiry_fault must_expire time [] until = if must_expire then Some NoExpiry else None
 expiry_fault must_expire time (once ∷ []) (Some until) = unless (is_below time (Some until)) Expired
@@ -168,13 +178,14 @@ abbrev pub size_of : List (List ℕ) → Option ℕ
 size_of (digits ∷ []) = number_in digits
 size_of fields = None
 
+-- The signed size in this comment.
 abbrev pub size_in : List ℕ → Option ℕ
 size_in comment = size_of (values_of size_label comment)
 
--- The signed size of the data. With a list it is None, because the comment of a list does not say how long
--- the data is.
+-- The signed size of the data. If the run uses a list (the first argument is Some), it is None, because the
+-- comment of a list does not say how long the data is.
 abbrev pub signed_size : Option LongDigest → List ℕ → Option ℕ
-signed_size mode comment = if is_some mode then None else size_in comment
+signed_size list comment = if is_some list then None else size_in comment
 
 -- The error if there are several fields `size:`, or one whose value is not a number.
 abbrev pub size_fault : List (List ℕ) → Option InstallFault
@@ -185,6 +196,7 @@ size_fault fields = unless (is_some (size_of fields)) BadSize
 abbrev pub is_too_old : Options → Option ℕ → Option ℕ → Bool
 is_too_old o recorded version = is_below version recorded && not o.roll_back
 
+-- The first of these errors, if there is one.
 abbrev pub first_fault : List (Option InstallFault) → Option InstallFault
 first_fault [] = None
 first_fault (Some fault ∷ more) = Some fault
@@ -218,6 +230,7 @@ abbrev pub version_unless : Option InstallFault → Option ℕ → Result ℕ In
 version_unless None version = Ok (unwrap_or version 0)
 version_unless (Some fault) version = Err fault
 
+-- The result of checking only a comment.
 abbrev pub judge_comment_only : List ℕ → Numbering → ℕ → ℕ → List ℕ → Result ℕ InstallFault
 judge_comment_only file numbering time least comment =
     version_unless (comment_only_fault file numbering time least comment) (version_in numbering comment)

@@ -23,7 +23,7 @@ use Rattle.minisign_install.specs.Step.{SyncTargetName}
 use Rattle.minisign_install.specs.Step.{RemoveLeftovers, RenameFile, RenameRecord, SetPermissions, SyncFile}
 use Rattle.minisign_install.specs.Step.{SyncFileName, SyncRecord, SyncRecordName, WouldInstall, WriteRecord}
 use Rattle.minisign_install.specs.Step.{SignatureRead, State, begin, data_question, new_record}
-use Rattle.minisign_install.specs.StepRuns.{HasListing, IsUpdate, World, says_yes, first_signer}
+use Rattle.minisign_install.specs.StepRuns.{HasListing, IsUpdate, World, accepts_question, first_signer}
 
 -- == One operation ==
 
@@ -87,7 +87,7 @@ EndIsDurable w o Installed s m =
     × ((file : File) × (m.target ≡ Some file) × (file.bytes ≡ s.read) × (file.permissions ≡ true)
     × (file.synced ≡ true) × (m.target_left ≡ [])) × (m.leftovers ≡ false)
 EndIsDurable w o AlreadyInstalled s m =
-    (says_yes w (data_question CheckTarget s) ≡ true) × HasListing w o s
+    (accepts_question w (data_question CheckTarget s) ≡ true) × HasListing w o s
     × (fits_list o.list w.list w.name s.read ≡ true)
     × ((s.options.check ≡ true) ⊎ IsDurable m.target m.target_left s.read)
 EndIsDurable w o op s m = ⊤
@@ -242,8 +242,9 @@ pub record IsOtherUpdate (w : World) (o : Options) (k : ℕ) (digest : List ℕ)
       → judge_text o w.text ≡ Ok (t, keys) → others ++ v ∷ more ≡ keys
       → w.accepts digest v.key t.signature.signature ≡ false
 
--- A run with these options, after a run that has ended in this state: it reads the record of that run, and
--- its options neither ignore the record nor replace other data.
+-- A run with these options, after a run that has ended in state `s`. It reads the record of that run. Neither
+-- --first nor --new-key is given, with which it might ignore the record, nor --again, with which it might
+-- replace other data of the same version.
 pub record IsLaterRun (w : World) (o : Options) (numbering : Numbering) (s : State) : Type 0 where
   pub reads_record : w.found_record ≡ Some (new_record s)
   pub same_field : o.numbering ≡ numbering

@@ -60,19 +60,22 @@ use Rattle.minisign_sha2.specs.declared.stored.StoredSha512.{StoredSha512}
 abbrev pub operation_of : ℕ → Operation
 operation_of n = get_or operations n Nothing
 
--- The number of the field that has the version number, and the field with a number.
+-- The number by which applications choose the field that has the version number.
 abbrev pub numbering_number : Numbering → ℕ
 numbering_number Timestamp = 0
 numbering_number Version = 1
 
+-- The field that this number chooses. The numbers other than 0 and 1 are rejected by `choices_misuse`.
 abbrev pub numbering_of : ℕ → Numbering
 numbering_of n = if n == numbering_number Version then Version else Timestamp
 
+-- The value if the condition holds, otherwise None.
 abbrev pub when : {A : Type 0} → Bool → A → Option A
 when holds value = if holds then Some value else None
 
--- The hash function, if any, that 128 digits stand for on a line of the list that does not name one. It is
--- None if the signature is not that of a list.
+-- The field `list` of the options: None if the signature is not that of a list. Otherwise it is the hash
+-- function of lines with a digest of 128 hexadecimal digits that do not name one, or says that they are
+-- malformed.
 abbrev pub list_of : ℕ → ℕ → Option LongDigest
 list_of is_list number = when (is_list == 1) (unwrap_or (long_numbered number) long.Rejected)
 
@@ -126,7 +129,7 @@ abbrev pub judgment_of : Result RecordedValue InstallFault → Result Recorded I
 judgment_of (Ok r) = Ok (recorded_of r)
 judgment_of (Err fault) = Err fault
 
--- The keys that may have signed: the first key, the other key, both or neither.
+-- The given keys with the key ID of the signature: the first key, the other key, both or neither.
 abbrev pub signers_of : Progress → List PublicKeyValue
 signers_of p =
     (if p.key_matches == 1 then p.chosen.key ∷ [] else []) ++ (if p.other_key_matches == 1 then p.chosen.other
@@ -164,12 +167,12 @@ abbrev pub error_number : Option InstallFault → ℕ
 error_number None = 0
 error_number (Some e) = install_number e
 
--- The state of SHA-256 or SHA-512, if the file is hashed with this function. Most of it is in the fields of
--- BLAKE2b.
+-- The state of SHA-256, if the file is hashed with it. It is stored mostly in the fields of BLAKE2b.
 abbrev pub stored_256 : Reading → StoredSha256
 stored_256 r =
     record { h = r.sha256; buffer = take 64 r.blake2b.buffer; count = r.blake2b.count_low }
 
+-- The state of SHA-512, if the file is hashed with it. It is stored in the fields of BLAKE2b.
 abbrev pub stored_512 : Reading → StoredSha512
 stored_512 r = record {
   h = r.blake2b.h;
@@ -189,7 +192,8 @@ WasRead None r m = WasFed r.blake2b m
 abbrev pub reading_for : Chosen → ListingValue → Option Algorithm
 reading_for c l = if c.is_list == 1 then algorithm_numbered l.hash else None
 
--- The struct represents the state.
+-- The struct represents the state. `file`, `read`, `fault` and `error` are the parts of the state that the
+-- struct does not contain, or contains only as a hash or a number.
 pub record HoldsState (p : Progress) (s : State) : Type 0 where
   pub file : List ℕ
   pub read : List ℕ
@@ -204,6 +208,8 @@ pub record HoldsState (p : Progress) (s : State) : Type 0 where
 abbrev pub begun_mark : ℕ
 begun_mark = 7812726606361684333
 
+-- The struct represents the state, if the installation was begun. Otherwise nothing has happened in the
+-- state.
 abbrev pub RepresentsIf : Bool → Progress → State → Type 0
 RepresentsIf true p s = HoldsState p s
 RepresentsIf false p s =
@@ -258,7 +264,7 @@ abbrev pub is_writing_record : Operation → Bool
 is_writing_record WriteRecord = true
 is_writing_record op = false
 
--- == What the application gets ==
+-- == What the calls return to the application ==
 
 -- The first of the keys that may have signed.
 abbrev pub first_key : List PublicKeyValue → Option (List ℕ)
@@ -284,6 +290,7 @@ question_of CheckTarget key s = Some (about key s.signature (signed_digest s))
 question_of CheckData key s = Some (about key s.signature (signed_digest s))
 question_of op key s = None
 
+-- The question that is due, or None if the signature file was not read yet or there is no key.
 abbrev pub question_by : Bool → Option (List ℕ) → Operation → State → Option Question
 question_by true (Some key) op s = question_of op key s
 question_by is_read key op s = None
@@ -309,10 +316,10 @@ pub record IsWritten (text : List ℕ) (n : ℕ) (old new : List ℕ) : Type 0 w
   pub rest_unchanged : drop n new ≡ drop n old
   pub room : n ≡ 0 → (new ≡ old) × (length old < length text)
 
--- The text is written as IsWritten says, or nothing is written if there is no text.
-abbrev pub written_if : Option (List ℕ) → ℕ → List ℕ → List ℕ → Type 0
-written_if None n old new = (n ≡ 0) × (new ≡ old)
-written_if (Some text) n old new = IsWritten text n old new
+-- If there is a text, it is written as IsWritten says. Otherwise nothing is written.
+abbrev pub IsWrittenIf : Option (List ℕ) → ℕ → List ℕ → List ℕ → Type 0
+IsWrittenIf None n old new = (n ≡ 0) × (new ≡ old)
+IsWrittenIf (Some text) n old new = IsWritten text n old new
 
 -- == Calls ==
 
@@ -331,9 +338,7 @@ options_by key other c file = record {
   list = list_of c.is_list c.long_digest;
 }
 
--- The API misuse if the options are rejected: BadOption if an option is neither 0 nor 1 or if two options
--- must not be combined, BadNumbering if there is no field with this number, and otherwise BadHash if
--- `long_digest` is not 0, 2 or 3.
+-- Options that are given or not are passed as 1 or 0.
 abbrev pub is_flag : ℕ → Bool
 is_flag n = nat_le n 1
 
@@ -341,13 +346,18 @@ abbrev pub are_flags : Choices → Bool
 are_flags c = is_flag c.is_first && is_flag c.again && is_flag c.is_check && is_flag c.must_expire
     && is_flag c.new_key && is_flag c.roll_back && is_flag c.is_list
 
+-- --first must not be combined with --new-key or --roll-back.
 abbrev pub choices_fit : Choices → Bool
 choices_fit c = not (c.is_first == 1 && (c.new_key == 1 || c.roll_back == 1))
 
+-- The API misuse if there is no hash function with the number `long_digest`.
 abbrev pub number_misuse : Option LongDigest → Option Misuse
 number_misuse (Some long) = None
 number_misuse None = Some BadHash
 
+-- The API misuse if the options are rejected: BadOption if an option is neither 0 nor 1 or if two options
+-- must not be combined, BadNumbering if there is no field with this number, and otherwise BadHash if
+-- `long_digest` is not 0, 2 or 3.
 abbrev pub choices_misuse : Choices → Option Misuse
 choices_misuse c =
     if are_flags c && choices_fit c
@@ -410,9 +420,9 @@ abbrev pub IsTooLong : Option (List ℕ) → ℕ → Type 0
 IsTooLong message room = (m : List ℕ) × (message ≡ Some m) × (room < length m)
 
 -- The result without the length of the message.
-abbrev pub plain : Result ℕ (Refusal InstallFault) → Result Unit (Refusal InstallFault)
-plain (Ok n) = Ok tt
-plain (Err r) = Err r
+abbrev pub without_length : Result ℕ (Refusal InstallFault) → Result Unit (Refusal InstallFault)
+without_length (Ok n) = Ok tt
+without_length (Err r) = Err r
 
 -- The struct contains the result of reading the signature file `t`: its two signatures, the version number
 -- and the size in its comment, and the number of the error if the comment is rejected.
@@ -435,7 +445,8 @@ RunLeadsTo s t result new = HoldsState new t × (result ≡ result_of s.error t.
 pub record SignatureLeads (judged : Result (SignatureTextRecord × List PublicKeyValue) Fault)
     (time : Option ℕ) (s : State) (result : Result ℕ (Refusal InstallFault)) (new : Progress)
     (before after : List ℕ) : Type 0 where
-  pub leads : result ≢ Err (WrongUse NoRoom) → RunLeadsTo s (after_signature judged time s) (plain result) new
+  pub leads : result ≢ Err (WrongUse NoRoom)
+      → RunLeadsTo s (after_signature judged time s) (without_length result) new
   pub message : IfOk result (λ n. HasMessage (comment_message judged) n before after)
   pub room : result ≡ Err (WrongUse NoRoom) → IsTooLong (comment_message judged) (length before)
 
@@ -445,7 +456,7 @@ pub record SignatureSteps (sig_text : List ℕ) (time : Option ℕ) (s : State)
     (result : Result ℕ (Refusal InstallFault)) (HoldsNew : State → Type 0) (before after : List ℕ)
     : Type 0 where
   pub steps : result ≢ Err (WrongUse NoRoom) → HoldsNew (step s (signature_read sig_text time)).1
-      × (plain result ≡ (step s (signature_read sig_text time)).0)
+      × (without_length result ≡ (step s (signature_read sig_text time)).0)
   pub message : IfOk result (λ n. HasMessage (comment_message (judged_text s sig_text)) n before after)
   pub room : result ≡ Err (WrongUse NoRoom)
       → (s.due ≡ ReadSignature) × IsTooLong (comment_message (judged_text s sig_text)) (length before)

@@ -1,3 +1,4 @@
+-- The definitions that the contracts of minisign_install use.
 pub mod Applications
 pub mod CommentChecks
 pub mod Comments

@@ -14,8 +14,8 @@ use Rattle.minisign_lists.specs.declared.lines.LongDigest.{LongDigest}
 use Rattle.minisign_lists.specs.Lists.{listed_entry}
 use Rattle.minisign_lists.specs.declared.faults.ListFault.TheVariants as lists
 
--- The entry of the name in the list, or the first check that fails. The first check is that the list and the
--- name are UTF-8.
+-- The entry for the name in the list, or the error of the first check that fails. The first check is that the
+-- list and the name are UTF-8.
 abbrev pub entry_in : LongDigest → List ℕ → List ℕ → Result Entry ListFault
 entry_in long list name =
     if is_utf8 list && is_utf8 name then listed_entry long list name else Err (lists.Library (Named NotUtf8))
@@ -34,13 +34,14 @@ abbrev pub digest_found : Result Entry ListFault → Result ListedDigest Install
 digest_found (Ok entry) = Ok entry.digest
 digest_found (Err fault) = Err (list_fault fault)
 
--- The number of the line at fault, or 0.
+-- The number of the line that is malformed or lists the name again, or 0.
 abbrev pub line_found : Result Entry ListFault → ℕ
 line_found (Ok entry) = 0
 line_found (Err fault) = line_of_fault fault
 
 -- The digest of a list, and the result of looking up a name in it. `listed` is the digest that the data must
--- have, or the error with which the run is rejected. `line` is the number of the line at fault, or 0.
+-- have, or the error with which the run is rejected. `line` is the number of the line that caused the error,
+-- or 0.
 pub record Listing : Type 0 where
   pub digest : List ℕ
   pub listed : Result ListedDigest InstallFault
@@ -75,4 +76,4 @@ fits_list (Some long) list name m = has_listed (digest_found (entry_in long list
 
 -- The digest for which the signature must be valid: that of the list, or without a list that of the data.
 abbrev pub digest_to_sign : Option LongDigest → List ℕ → List ℕ → List ℕ
-digest_to_sign mode list m = blake2b_digest 64 (if is_some mode then list else m)
+digest_to_sign long list m = blake2b_digest 64 (if is_some long then list else m)

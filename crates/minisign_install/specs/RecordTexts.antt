@@ -84,6 +84,7 @@ pub record IsRecordOf (numbering : Numbering) (n : ℕ) (key digest bytes : List
   pub names : record_key bytes ≡ Some key
   pub fits : record_digest bytes ≡ Some digest
 
+-- The other one of the two fields that can have the version number.
 abbrev pub other_field : Numbering → Numbering
 other_field Timestamp = Version
 other_field Version = Timestamp

@@ -125,7 +125,7 @@ pub record State : Type 0 where
   pub left : Option ℕ
   pub error : Option InstallFault
 
--- A check takes no lock.
+-- The state at the beginning of a run. With --check, no lock is taken.
 abbrev pub begin : Options → State
 begin o = record {
   due = if o.check then ReadRecord else Lock;
@@ -203,6 +203,7 @@ data_question op s =
 
 -- == Decisions ==
 
+-- This operation is due next.
 abbrev pub go : Operation → State → State
 go op s = record s { due = op }
 
@@ -221,7 +222,7 @@ has_files SyncRecordName = true
 has_files RenameFile = true
 has_files op = false
 
--- The run is rejected. Its temporary files are removed first.
+-- The state after the run is rejected with this error. Its temporary files are removed first.
 abbrev pub reject : InstallFault → State → State
 reject fault s = record s { due = if has_files s.due then RemoveFiles else Rejected; error = Some fault }
 
@@ -240,20 +241,22 @@ is_failure named.WritingFailed = true
 is_failure named.RandomSourceFailed = true
 is_failure f = false
 
+-- The state after a failed operation, if it can fail for this reason.
 abbrev pub fail : NamedFault → State → Option State
 fail f s = if is_failure f then Some (reject (failure s.due f) s) else None
 
--- The update is to be installed. The bytes that were read of the installed file are discarded.
+-- The state in which the update is to be installed; a check ends here. The bytes that were read of the
+-- installed file are discarded.
 abbrev pub install : State → State
 install s = record s { due = if s.options.check then WouldInstall else RemoveLeftovers; read = [] }
 
--- The record was read.
+-- The state after the record was read, with its contents or the error with which it is rejected.
 abbrev pub after_record : Result Recorded InstallFault → State → State
 after_record (Ok recorded) s = record s { due = ReadSignature; recorded = recorded }
 after_record (Err fault) s = reject fault s
 
--- The signature file was read. Its comment is checked only here; `fault` keeps the result until a key is
--- found to have signed the comment.
+-- The state after the signature file was read. Its comment is checked only here; `fault` keeps the result
+-- until the signature of the comment is found valid.
 abbrev pub after_signature : Result (SignatureTextRecord × List PublicKeyValue) Fault → Option ℕ → State
     → State
 after_signature (Ok (t, signers)) time s = record s {
@@ -276,7 +279,8 @@ is_newer s = not (is_some s.recorded.version) || is_below s.recorded.version (So
 abbrev pub is_rolling_back : State → Bool
 is_rolling_back s = is_below (Some s.version) s.recorded.version
 
--- The installed file need not be read if the update is newer. Otherwise the update may be installed already.
+-- The state after the comment, and the list if there is one, were accepted. If the update is newer, it is
+-- installed without reading the installed file. Otherwise it may be installed already.
 abbrev pub compare : State → State
 compare s =
     if is_newer s then install s
@@ -284,14 +288,14 @@ compare s =
     else if is_rolling_back s then install s
     else go ReadTarget s
 
--- A key has signed the comment. The run continues with the list, if there is one, or is rejected with this
--- error.
+-- The state after the signature of the comment was found valid. If there is an error, the run is rejected
+-- with it. Otherwise the run continues with the list, if it uses one.
 abbrev pub after_comment : Option InstallFault → State → State
 after_comment None s = if is_some s.options.list then go ReadList s else compare s
 after_comment (Some fault) s = reject fault s
 
--- The list was read. The name is looked up here, and nowhere else. `listing` keeps the result until the list
--- is found to be signed.
+-- The state after the list was read. The name is looked up here, and nowhere else. `listing` keeps the result
+-- until the signature of the list is found valid.
 abbrev pub after_list : List ℕ → List ℕ → State → State
 after_list list name s = record s {
   due = CheckList;
@@ -299,7 +303,8 @@ after_list list name s = record s {
   read = [];
 }
 
--- The list is signed. It has this digest for the name, or the run is rejected for this error.
+-- The state after the signature of the list was found valid. The run continues if looking up the name in the
+-- list had a digest as its result. Otherwise it is rejected with the error of the lookup.
 abbrev pub after_listing : Result ListedDigest InstallFault → State → State
 after_listing (Ok digest) s = compare s
 after_listing (Err fault) s = reject fault s
@@ -308,38 +313,42 @@ after_listing (Err fault) s = reject fault s
 abbrev pub is_listed : State → Bool
 is_listed s = fits_listed s.options.list s.listing.listed s.read
 
--- This key has not signed the comment. The next key with this key ID is tried, if there is one.
+-- The state after Ed25519 rejected the signature of the comment under the first of these keys. The second key
+-- with this key ID is tried, if there is one.
 abbrev pub next_key : List PublicKeyValue → State → State
 next_key (v ∷ w ∷ more) s = record s { signers = w ∷ more }
 next_key signers s = reject (Library (Named named.CommentSignatureRefused)) s
 
--- The result of Ed25519 for the digest in the record was reported: true if this is the digest of the update.
--- If it is false and the update is older, the update is installed, which is a roll-back.
+-- The state after Ed25519 accepted or rejected the signature for the digest in the record: true if this is
+-- the digest of the update. If it is false and the update is older, the update is installed, which is a
+-- roll-back.
 abbrev pub after_digest : Bool → State → State
 after_digest accepted s =
     if not accepted && is_rolling_back s then install s
     else record s { due = ReadTarget; is_recorded = accepted }
 
--- The result of Ed25519 for the installed file was reported: true if this file is the update. If it is
--- false, the update replaces the file only if the record is that of the update, or if --again is given.
+-- The state after Ed25519 accepted or rejected the signature for the installed file: true if this file is the
+-- update. If it is false, the update replaces the file only if the record is that of the update, or if
+-- --again is given.
 abbrev pub after_target : Bool → State → State
 after_target true s = go (if s.options.check then AlreadyInstalled else SyncTarget) s
 after_target false s =
     if s.is_recorded || s.options.again then install s else reject SameNumber s
 
--- The signature is valid for the digest of the data or, with a list, for that of the list. The flag says
--- whether the data has the listed digest; without a list it is true.
+-- The state after the signature was found valid for the digest of the data or, with a list, for that of the
+-- list. The flag is true if the data has the listed digest, and without a list.
 abbrev pub after_data : Bool → State → State
 after_data true s = go SetPermissions s
 after_data false s = reject DigestMismatch s
 
--- A piece of n bytes was copied. The run is rejected if the data is longer than the signed size.
+-- The state after a piece of n bytes was copied. The run is rejected if the data is longer than the signed
+-- size.
 abbrev pub after_piece : ℕ → Option ℕ → State → State
 after_piece n None s = s
 after_piece n (Some left) s =
     if nat_le n left then record s { left = Some (left - n) } else reject OtherSize s
 
--- All data was copied. The run is rejected if the data is shorter than the signed size.
+-- The state after all data was copied. The run is rejected if the data is shorter than the signed size.
 abbrev pub after_copy : Option ℕ → State → State
 after_copy None s = go ReadBack s
 after_copy (Some left) s = if left == 0 then go ReadBack s else reject OtherSize s
@@ -368,12 +377,13 @@ next SyncFileName = Some Installed
 next RemoveFiles = Some Rejected
 next op = None
 
+-- The state in which this operation is due, if there is one.
 abbrev pub proceed : Option Operation → State → Option State
 proceed (Some op) s = Some (go op s)
 proceed None s = None
 
--- The state after an event, if the event fits the operation. Whatever happens while files are removed, the
--- run is rejected for the first error.
+-- The state after an event, if the event fits the operation. If removing the temporary files fails, the run
+-- is still rejected with the error for which they are removed.
 abbrev pub after : Operation → Event → State → Option State
 after Lock InUse s = Some (reject TargetInUse s)
 after ReadRecord (RecordRead found) s = Some (after_record (judge_record s.options found) s)
@@ -407,10 +417,13 @@ abbrev pub result_of : Option InstallFault → Option InstallFault → Result Un
 result_of None (Some fault) = Err (Refused fault)
 result_of before now = Ok tt
 
+-- The result and the new state, if the event fits. Otherwise the result is NotDue, and the state is
+-- unchanged.
 abbrev pub answer : State → Option State → Result Unit (Refusal InstallFault) × State
 answer s (Some t) = (result_of s.error t.error, t)
 answer s None = (Err (WrongUse NotDue), s)
 
+-- One step of the installer.
 abbrev pub step : State → Event → Result Unit (Refusal InstallFault) × State
 step s e = answer s (after s.due e s)
 

@@ -44,14 +44,15 @@ pub record World : Type 0 where
   pub max_size : ℕ
 
 -- Ed25519 accepts the signature in this question.
-abbrev pub says_yes : World → Question → Bool
-says_yes w q = w.accepts q.message q.key q.signature
+abbrev pub accepts_question : World → Question → Bool
+accepts_question w q = w.accepts q.message q.key q.signature
 
 -- `accepted` is the result of Ed25519 for the question at this operation.
 abbrev pub IsAnswer : World → State → Operation → Bool → Type 0
 IsAnswer w s CheckComment accepted =
-    (t : SignatureTextRecord) → w.text ≡ Ok t → accepted ≡ says_yes w (comment_question s t.comments.trusted)
-IsAnswer w s op accepted = accepted ≡ says_yes w (data_question op s)
+    (t : SignatureTextRecord) → w.text ≡ Ok t
+    → accepted ≡ accepts_question w (comment_question s t.comments.trusted)
+IsAnswer w s op accepted = accepted ≡ accepts_question w (data_question op s)
 
 -- The event is true at this operation: it reports what happened. A lawful application reports only true
 -- events. n is the number of bytes that were copied so far. A piece is not empty, and not longer than the
@@ -170,6 +171,7 @@ Succeeds (Failed f) = ⊥
 Succeeds InUse = ⊥
 Succeeds e = ⊤
 
+-- Each event succeeds.
 abbrev pub AllSucceed : List (Event × Disk) → Type 0
 AllSucceed [] = ⊤
 AllSucceed ((e, disk) ∷ more) = Succeeds e × AllSucceed more
@@ -211,8 +213,8 @@ pub record IsUpdate (w : World) (o : Options) (s : State) : Type 0 where
   pub version : s.version ≡ unwrap_or (version_in o.numbering text.comments.trusted) 0
   pub signature : s.signature ≡ text.signature.signature
   pub comment_signature : s.comment_signature ≡ take 64 text.comments.signature
-  pub signed_comment : says_yes w (comment_question s text.comments.trusted) ≡ true
-  pub signed_data : says_yes w (data_question CheckData s) ≡ true
+  pub signed_comment : accepts_question w (comment_question s text.comments.trusted) ≡ true
+  pub signed_data : accepts_question w (data_question CheckData s) ≡ true
   pub listing : HasListing w o s
   pub listed : fits_list o.list w.list w.name s.read ≡ true
   pub not_older : (k : ℕ) → s.recorded.version ≡ Some k → HasVersion o w.found_record k × (k ≤ new_version s)
@@ -271,12 +273,12 @@ pub record IsSameVersion {w : World} {o : Options} (g : IsSigned w o) : Type 0 w
   pub installed_differs : accepts_data g installed ≡ false
   pub recorded_differs : (digest : List ℕ) → g.recorded.digest ≡ Some digest → accepts_digest g digest ≡ false
 
--- If this event passes in a time, the time is in the set.
+-- If this event reports a time, which only SignatureRead does, the time is in the set.
 abbrev pub IsAtTimeIn : (Option ℕ → Bool) → Event → Type 0
 IsAtTimeIn times (SignatureRead text time) = times time ≡ true
 IsAtTimeIn times e = ⊤
 
--- A time in the set.
+-- A time, with the proof that it is in the set.
 abbrev pub TimeIn : (Option ℕ → Bool) → Type 0
 TimeIn times = (time : Option ℕ) × (times time ≡ true)
 
@@ -343,7 +345,7 @@ check_due op = op
 abbrev pub as_check : State → State
 as_check s = record s { due = check_due s.due; options = record s.options { check = true } }
 
--- Both installations and checks perform the operation.
+-- The operation serves to decide whether to install the update. Installations and checks both perform it.
 abbrev pub decides : Operation → Bool
 decides ReadRecord = true
 decides ReadSignature = true

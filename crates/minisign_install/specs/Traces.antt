@@ -115,6 +115,7 @@ seen file = record { number = file.number; bytes = file.bytes }
 abbrev pub seen_as : FileView → Seen
 seen_as v = record { number = v.number; bytes = v.bytes.now }
 
+-- The file with other bytes.
 abbrev pub with_bytes : List ℕ → Option Seen → Option Seen
 with_bytes bytes (Some v) = Some (record { number = v.number; bytes = bytes })
 with_bytes bytes None = None
@@ -295,27 +296,28 @@ read_after (fsm.PieceRead bytes) read = read ++ bytes
 read_after (fsm.ListRead list name) read = []
 read_after e read = read
 
+-- The effect is that a piece of the data was appended.
 abbrev pub is_growing : Effect → Bool
 is_growing (effect.DataGrown piece) = true
 is_growing did = false
 
 -- The state has the file name, and the data signature of the signature file, at the operations that need
 -- them.
-pub record StateKnows (w : World) (file : List ℕ) (s : State) : Type 0 where
+pub record HasInputs (w : World) (file : List ℕ) (s : State) : Type 0 where
   pub named : s.due ≡ fsm.ReadSignature → s.options.file ≡ file
   pub signature : s.due ≡ fsm.CheckComment → (t : SignatureTextRecord) → w.text ≡ Ok t
       → s.signature ≡ t.signature.signature
   pub parsed : s.due ≡ fsm.CheckComment → (t : SignatureTextRecord) × (w.text ≡ Ok t)
 
--- The buffer begins with the message of the question about the trusted comment, unless its length is 0.
-abbrev pub IsAsked : World → ℕ → List ℕ → Type 0
-IsAsked w n message =
+-- If n is not 0, the first n bytes of the buffer are the message that is signed for the trusted comment.
+abbrev pub HasCommentMessage : World → ℕ → List ℕ → Type 0
+HasCommentMessage w n message =
     0 < n → (t : SignatureTextRecord) → w.text ≡ Ok t
     → take n message ≡ t.signature.signature ++ t.comments.trusted
 
 -- If the check of the trusted comment is due, n is the length of its message, which fits into the buffer.
-abbrev pub IsWhole : World → Operation → ℕ → List ℕ → Type 0
-IsWhole w op n message =
+abbrev pub HasWholeMessage : World → Operation → ℕ → List ℕ → Type 0
+HasWholeMessage w op n message =
     op ≡ fsm.CheckComment → (t : SignatureTextRecord) → w.text ≡ Ok t
     → (n ≡ length (t.signature.signature ++ t.comments.trusted)) × (n ≤ length message)
 
@@ -325,13 +327,13 @@ pub record FollowerHolds (w : World) (f : Follower) (message : List ℕ) (s : St
   pub stored : Represents f.installation s
   pub read : f.read.now ≡ s.read
   pub seen : AreFilesOf f.files m
-  pub asked : IsAsked w f.message_len message
-  pub whole : IsWhole w s.due f.message_len message
+  pub asked : HasCommentMessage w f.message_len message
+  pub whole : HasWholeMessage w s.due f.message_len message
 
 -- The follower has followed a call with this event and effect.
 abbrev pub HasFollowed : World → List ℕ → Event → Effect → Follower → Follower → List ℕ → List ℕ → Type 0
 HasFollowed w file e did old new before now =
-    (s : State) (m : Snapshot) → StateKnows w file s → FollowerHolds w old before s m
+    (s : State) (m : Snapshot) → HasInputs w file s → FollowerHolds w old before s m
     → IsLawfulCall w s m e did × FollowerHolds w new now (step s e).1 (affected did m)
     × (new.source.now ≡ source_at s m old.source.now)
 
@@ -339,8 +341,8 @@ HasFollowed w file e did old new before now =
 pub record HasReported (w : World) (e : Event) (s : State) (new : Follower) (message : List ℕ) : Type 0 where
   pub stored : Represents new.installation (step s e).1
   pub fits : is_some (after s.due e s) ≡ true
-  pub asked : IsAsked w new.message_len message
-  pub whole : IsWhole w (step s e).1.due new.message_len message
+  pub asked : HasCommentMessage w new.message_len message
+  pub whole : HasWholeMessage w (step s e).1.due new.message_len message
 
 -- The follower has followed a line of a trace.
 abbrev pub IsFollowed : World → List ℕ → Line → Follower → Follower → List ℕ → List ℕ → Type 0

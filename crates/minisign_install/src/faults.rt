@@ -41,8 +41,8 @@ pub enum InstallFault {
     /// The update has expired at the time that the caller passes.
     Expired,
     /// The trusted comment has more than one field `expires:`, or its value is not a decimal number below
-    /// 2^64. If `must_expire` is set, this includes fields that differ from it only in case or in white
-    /// space.
+    /// 2^64. If `must_expire` is set, this is also the error for a label that differs from `expires:` only in
+    /// case or in white space.
     BadExpiry,
     /// This version is already recorded, but the installed file is different, and `again` is not
     /// set.

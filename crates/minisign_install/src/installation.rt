@@ -18,7 +18,7 @@ ghost use Rattle.minisign_install.specs.Installations.{is_reading_list, is_readi
 ghost use Rattle.minisign_install.specs.Installations.{is_reading_target, is_removing};
 ghost use Rattle.minisign_install.specs.Installations.{is_writing_record, operation_of, record_due};
 ghost use Rattle.minisign_install.specs.Installations.{IsNewRecord, is_reading_signature, question_due};
-ghost use Rattle.minisign_install.specs.Installations.{written_if};
+ghost use Rattle.minisign_install.specs.Installations.{IsWrittenIf};
 ghost use Rattle.minisign_install.specs.Step.{Rejected, RemoveFiles, failure, has_files, next};
 
 mod judging;
@@ -449,7 +449,7 @@ impl Installation {
     /// it is not due or the buffer is too short. A record has at most 224 bytes.
     pub fn record_text(&self, to: &mut [u8]) -> usize
         ensures written { (s : State) → Represents self.now s
-            → written_if (record_due s) result to.old to.new }
+            → IsWrittenIf (record_due s) result to.old to.new }
         // The bytes that were written parse to the version number, the key and the digest that the run
         // records: those of the update, or after a roll-back the recorded version and its key.
         ensures reads_back { (s : State) → Represents self.now s → 0 < result

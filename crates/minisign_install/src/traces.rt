@@ -24,7 +24,7 @@ ghost use Rattle.minisign_install.specs.Traces.{IsRecordDue};
 ghost use Rattle.minisign_install.specs.Traces.{IsRecorded, is_reported, source_at};
 ghost use Rattle.minisign_install.specs.Traces.{FollowerHolds, HasFollowed, IsLawful, IsLawfulCall};
 ghost use Rattle.minisign_install.specs.Traces.{AreFilesOf};
-ghost use Rattle.minisign_install.specs.Traces.{StateKnows};
+ghost use Rattle.minisign_install.specs.Traces.{HasInputs};
 ghost use Rattle.minisign_install.specs.Traces.{affected, bytes_seen, changed, event_of, has_failed};
 ghost use Rattle.minisign_install.specs.Traces.{installs, is_done, is_growing, is_listed, is_nothing};
 ghost use Rattle.minisign_install.specs.Traces.{is_plain, is_read, read_after, seen_as, with_bytes, world_of};
@@ -484,11 +484,11 @@ impl<'a> Follower<'a> {
     // Returns true if this is the result of Ed25519 for the question that is due.
     fn has_answered(&self, inputs: &RunInputs<'a>, message: &[u8], accepted: bool) -> bool
         ensures sound { result ≡ true → (file : List ℕ) (s : State) (m : Snapshot)
-            → StateKnows (world_of inputs.now) file s
+            → HasInputs (world_of inputs.now) file s
             → FollowerHolds (world_of inputs.now) self.now message.now s m
             → Performs (world_of inputs.now) s s.due (Answered accepted) m m }
         ensures complete { (file : List ℕ) (s : State) (m : Snapshot)
-            → StateKnows (world_of inputs.now) file s
+            → HasInputs (world_of inputs.now) file s
             → FollowerHolds (world_of inputs.now) self.now message.now s m
             → Performs (world_of inputs.now) s s.due (Answered accepted) m m
             → is_some (question_due s) ≡ true → result ≡ true }
@@ -576,11 +576,11 @@ impl<'a> Follower<'a> {
         effect: &Effect<'a>,
     ) -> bool
         ensures sound { result ≡ true → (file : List ℕ) (s : State) (m : Snapshot)
-            → StateKnows (world_of inputs.now) file s
+            → HasInputs (world_of inputs.now) file s
             → FollowerHolds (world_of inputs.now) self.now message.now s m
             → Performs (world_of inputs.now) s s.due (event_of report.now) m (affected effect.now m) }
         ensures complete { (file : List ℕ) (s : State) (m : Snapshot)
-            → StateKnows (world_of inputs.now) file s
+            → HasInputs (world_of inputs.now) file s
             → FollowerHolds (world_of inputs.now) self.now message.now s m
             → Performs (world_of inputs.now) s s.due (event_of report.now) m (affected effect.now m)
             → ReportMatches inputs.now s m self.now.source.now report.now effect.now → result ≡ true }
@@ -691,10 +691,10 @@ impl<'a> Follower<'a> {
 
     // Reports an event to the installer. Returns true if it fits the operation that was due.
     fn reports(&mut self, file: &[u8], message: &mut [u8], report: &Report<'a>) -> bool
-        ensures sound { result ≡ true → (w : World) (s : State) (m new : Snapshot) → StateKnows w file.now s
+        ensures sound { result ≡ true → (w : World) (s : State) (m new : Snapshot) → HasInputs w file.now s
             → FollowerHolds w self.old message.old s m → Performs w s s.due (event_of report.now) m new
             → HasReported w (event_of report.now) s self.new message.new }
-        ensures complete { (w : World) (s : State) (m new : Snapshot) → StateKnows w file.now s
+        ensures complete { (w : World) (s : State) (m new : Snapshot) → HasInputs w file.now s
             → FollowerHolds w self.old message.old s m → Performs w s s.due (event_of report.now) m new
             → is_some (after s.due (event_of report.now) s) ≡ true → MessageFits w message.old
             → result ≡ true }
@@ -732,7 +732,7 @@ impl<'a> Follower<'a> {
     ) -> bool
         ensures sound { result ≡ true → HasFollowed (world_of inputs.now) file.now (event_of report.now)
             effect.now self.old self.new message.old message.new }
-        ensures complete { (s : State) (m : Snapshot) → StateKnows (world_of inputs.now) file.now s
+        ensures complete { (s : State) (m : Snapshot) → HasInputs (world_of inputs.now) file.now s
             → FollowerHolds (world_of inputs.now) self.old message.old s m
             → MessageFits (world_of inputs.now) message.old
             → IsLawfulCall (world_of inputs.now) s m (event_of report.now) effect.now
@@ -767,7 +767,7 @@ impl<'a> Follower<'a> {
     ) -> bool
         ensures sound { result ≡ true → IsFollowed (world_of inputs.now) file.now line.now self.old self.new
             message.old message.new }
-        ensures complete { (s : State) (m : Snapshot) → StateKnows (world_of inputs.now) file.now s
+        ensures complete { (s : State) (m : Snapshot) → HasInputs (world_of inputs.now) file.now s
             → FollowerHolds (world_of inputs.now) self.old message.old s m
             → MessageFits (world_of inputs.now) message.old
             → IsRecorded inputs.now s m self.old.source.now (line.now ∷ []) → result ≡ true }

@@ -1,4 +1,4 @@
--- Lemmas about the blocks of a list: of a list joined from two or from many, and of two lists
+-- Lemmas about the blocks of lists: of the concatenation of two or many lists, and of two lists that are
 -- combined element by element.
 use Rattle.std.proofs.Common.{◌≡◌, ℕ, zero, suc, ◌+◌, ◌-◌, ◌*◌, ◌<◌, ◌≤◌, List, [], ◌∷◌, ◌++◌, length, take}
 use Rattle.std.proofs.Common.{drop, refl, sym, ap, ◌∙◌, arith, inl, inr, add-one, length-drop}

@@ -1,4 +1,4 @@
--- Lemmas about the bytes of lists of words: of lists that are appended, split or xored.
+-- Lemmas about the bytes of lists of words, if the lists are appended, split or xored.
 use Rattle.std.proofs.Common.{◌≡◌, ℕ, zero, suc, ◌+◌, ◌*◌, ◌/◌, ◌%◌, ◌^◌, ◌<◌, ◌≤◌, List, [], ◌∷◌, ◌++◌}
 use Rattle.std.proofs.Common.{length, take, drop, slice_index, slice_set, bit_xor, refl, sym, ap, ◌∙◌, arith}
 use Rattle.std.proofs.Common.{append_assoc, lit<}

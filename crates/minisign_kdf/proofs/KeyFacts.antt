@@ -11,10 +11,12 @@ use Rattle.minisign_kdf.specs.Pbkdf2.{pbkdf2}
 use Rattle.minisign_kdf.specs.Scrypt.{scrypt}
 use Rattle.minisign_kdf.proofs.Joined.{joined_lists_next, joined_lists_none, length-joined_lists}
 
+-- HMAC-SHA-256 has 32 bytes.
 pub length-hmac : (key text : List ℕ) → length (hmac key text) ≡ 32
 unfolding hmac sha256 digest_bytes
 length-hmac key text = refl
 
+-- PBKDF2 and scrypt return as many bytes as were requested.
 pub length-pbkdf2 : (password salt : List ℕ) (len : ℕ) → length (pbkdf2 password salt len) ≡ len
 unfolding pbkdf2
 length-pbkdf2 password salt len =
@@ -32,43 +34,47 @@ length-scrypt password salt n r p len = length-pbkdf2 password _ len
 abbrev IsByte : ℕ → Type 0
 IsByte b = b < 2 ^ 8
 
-four_are : (w x y z : ℕ) → IsByte w → IsByte x → IsByte y → IsByte z → All IsByte (w ∷ x ∷ y ∷ z ∷ [])
-four_are w x y z hw hx hy hz zero d lt = hw
-four_are w x y z hw hx hy hz (suc zero) d lt = hx
-four_are w x y z hw hx hy hz (suc (suc zero)) d lt = hy
-four_are w x y z hw hx hy hz (suc (suc (suc zero))) d lt = hz
-four_are w x y z hw hx hy hz (suc (suc (suc (suc k)))) d lt = absurd (omega arith)
+four_are_bytes : (w x y z : ℕ) → IsByte w → IsByte x → IsByte y → IsByte z → All IsByte (w ∷ x ∷ y ∷ z ∷ [])
+four_are_bytes w x y z hw hx hy hz zero d lt = hw
+four_are_bytes w x y z hw hx hy hz (suc zero) d lt = hx
+four_are_bytes w x y z hw hx hy hz (suc (suc zero)) d lt = hy
+four_are_bytes w x y z hw hx hy hz (suc (suc (suc zero))) d lt = hz
+four_are_bytes w x y z hw hx hy hz (suc (suc (suc (suc k)))) d lt = absurd (omega arith)
 
-word_is : (n : ℕ) → All IsByte (to_be_bytes w32 n)
-word_is n = four_are _ _ _ _ (mod-lt (n / 2 ^ 24) (lit< tt)) (mod-lt (n / 2 ^ 16) (lit< tt))
+word_is_bytes : (n : ℕ) → All IsByte (to_be_bytes w32 n)
+word_is_bytes n = four_are_bytes _ _ _ _ (mod-lt (n / 2 ^ 24) (lit< tt)) (mod-lt (n / 2 ^ 16) (lit< tt))
     (mod-lt (n / 2 ^ 8) (lit< tt)) (mod-lt n (lit< tt))
 
-digest_is : (h : List ℕ) (n : ℕ) → All IsByte (digest_bytes h n)
+digest_is_bytes : (h : List ℕ) (n : ℕ) → All IsByte (digest_bytes h n)
 unfolding digest_bytes
-digest_is h zero = λ k d lt. absurd (omega arith)
-digest_is h (suc n) = All-append IsByte (digest_bytes h n) (to_be_bytes w32 (slice_index h n)) (digest_is h n)
-    (word_is (slice_index h n))
+digest_is_bytes h zero = λ k d lt. absurd (omega arith)
+digest_is_bytes h (suc n) = All-append IsByte (digest_bytes h n) (to_be_bytes w32 (slice_index h n))
+    (digest_is_bytes h n)
+    (word_is_bytes (slice_index h n))
 
-hmac_is : (key text : List ℕ) → All IsByte (hmac key text)
+hmac_is_bytes : (key text : List ℕ) → All IsByte (hmac key text)
 unfolding hmac sha256
-hmac_is key text = digest_is _ 8
+hmac_is_bytes key text = digest_is_bytes _ 8
 
-joined_lists_is : (f : ℕ → List ℕ) (n : ℕ) → ((i : ℕ) → All IsByte (f i)) → All IsByte (joined_lists f n)
-joined_lists_is f zero each = subst (All IsByte) (sym (joined_lists_none f)) (λ k d lt. absurd (omega arith))
-joined_lists_is f (suc n) each =
+joined_lists_are_bytes : (f : ℕ → List ℕ) (n : ℕ)
+    → ((i : ℕ) → All IsByte (f i)) → All IsByte (joined_lists f n)
+joined_lists_are_bytes f zero each =
+    subst (All IsByte) (sym (joined_lists_none f)) (λ k d lt. absurd (omega arith))
+joined_lists_are_bytes f (suc n) each =
     subst (All IsByte) (sym (joined_lists_next f n) ∙ ap (joined_lists f) (add-one n))
-    (All-append IsByte (joined_lists f n) (f n) (joined_lists_is f n each) (each n))
+    (All-append IsByte (joined_lists f n) (f n) (joined_lists_are_bytes f n each) (each n))
 
-pbkdf2_is : (password salt : List ℕ) (len : ℕ) → All IsByte (pbkdf2 password salt len)
+pbkdf2_is_bytes : (password salt : List ℕ) (len : ℕ) → All IsByte (pbkdf2 password salt len)
 unfolding pbkdf2
-pbkdf2_is password salt len =
-    All-take IsByte len _ (joined_lists_is (λ (i : ℕ). hmac password (salt ++ to_be_bytes w32 (i + 1)))
-    ((len + 31) / 32) (λ i. hmac_is password _))
+pbkdf2_is_bytes password salt len =
+    All-take IsByte len _ (joined_lists_are_bytes (λ (i : ℕ). hmac password (salt ++ to_be_bytes w32 (i + 1)))
+    ((len + 31) / 32) (λ i. hmac_is_bytes password _))
 
+-- Each element of a derived key is below 256.
 pub scrypt_bytes : (password salt : List ℕ) (n r p len : ℕ) (i : ℕ) → i < len
     → slice_index (scrypt password salt n r p len) i < 2 ^ 8
 unfolding scrypt
 scrypt_bytes password salt n r p len i lt =
     let l : i < length (scrypt password salt n r p len) = omega
     (arith, length-scrypt password salt n r p len) in
-    All-get_or IsByte _ i 0 l (pbkdf2_is password _ len)
+    All-get_or IsByte _ i 0 l (pbkdf2_is_bytes password _ len)

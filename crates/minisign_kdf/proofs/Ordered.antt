@@ -1,5 +1,4 @@
--- Lemmas about the bytes of blocks in diagonal order: of lists of blocks that are appended, split
--- or xored.
+-- Lemmas about the bytes of lists of blocks in diagonal order, if the lists are appended, split or xored.
 use Rattle.std.proofs.Common.{◌≡◌, ℕ, ◌+◌, ◌*◌, ◌/◌, ◌<◌, ◌≤◌, List, [], ◌++◌, length, take, drop}
 use Rattle.std.proofs.Common.{length-append, length-drop, bit_xor, refl, sym, ap, ◌∙◌, arith}
 use Rattle.std.proofs.Math.Seq.{take-add}

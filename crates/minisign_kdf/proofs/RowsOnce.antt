@@ -26,7 +26,7 @@ abbrev pub steps : List (List ℕ) → List ℕ → ℕ → List ℕ
 steps v x zero = x
 steps v x (suc t) = step v (steps v x t)
 
--- X begins as row number 16.
+-- At the start of the second loop, X is row number 16.
 abbrev pub mixed : List (List ℕ) → List ℕ
 mixed v = steps v (row v 16) 16
 

@@ -25,6 +25,8 @@ abbrev error_in : {V : Type 0} → Result V (Refusal ListFault) → Refusal List
 error_in (Ok n) other = other
 error_in (Err r) other = r
 
+-- If counting the entries returns n, reading the list returns n entries. If counting fails, reading fails
+-- with the same error (failed).
 pub counted : (r : Result (List Entry) (Refusal ListFault)) (n : ℕ) → Ok n ≡ mapped length r → Counted r n
 counted (Ok es) n h = record {
   entries = es;
@@ -46,6 +48,7 @@ of_read : (r : Result (List Entry) ListFault) (es : List Entry) → of_lists r �
 of_read (Ok v) es h = ap Ok (ap (λ s. entries_in s es) h)
 of_read (Err f) es h = absurd (cc h)
 
+-- The text of a verified list is read as a list.
 read : (c : Result ⊤ Misuse) (b : Bool) (text : List ℕ) (long : LongDigest) (es : List Entry)
     → go_on (go_on (of_misuse c) (λ _. cond b (Ok text) (Err not_utf8))) (λ list. of_lists
     (read_list long list)) ≡ Ok es

@@ -12,12 +12,10 @@ use Rattle.minisign.specs.Texts as texts
 use Rattle.minisign_external.specs.PublicKeys.{is_public_key}
 use Rattle.minisign_external.specs.Questions.{Answers, has_whole_signature, read_under}
 use Rattle.minisign_external.specs.Signatures.{IsReadFrom, comment_of, signature_of_value}
-use Rattle.minisign_external.specs.States.{AreQuestionsWithoutDigest, IsBlank, IsFedState, asking_checks}
-use Rattle.minisign_external.specs.States.{asked_under}
-use Rattle.minisign_external.specs.States.{asking_misuse}
-use Rattle.minisign_external.specs.States.{asking_result, asking_under, after_key_check, may_ask}
-use Rattle.minisign_external.specs.States.{after_comment_check}
-use Rattle.minisign_external.specs.States.{check_buffer, with_public_key}
+use Rattle.minisign_external.specs.States.{AreQuestionsWithoutDigest, IsBlank, IsFedState}
+use Rattle.minisign_external.specs.States.{check_ask_arguments, check_buffer_if_read, asking_misuse}
+use Rattle.minisign_external.specs.States.{result_of_asking, result_of_asking_with_text, after_key_check}
+use Rattle.minisign_external.specs.States.{can_be_asked, after_comment_check, check_buffer, with_public_key}
 use Rattle.minisign_external.specs.StrictCalls.{asked_strictly}
 use Rattle.minisign_external.specs.declared.public_keys.PublicKeyValue.{PublicKeyValue}
 use Rattle.minisign_external.specs.declared.signatures.SignatureValue.{SignatureValue}
@@ -38,19 +36,22 @@ use Rattle.minisign_lists.specs.declared.values.ListValue.{ListValue}
 -- == A new state ==
 
 module _ (s : State) (fed : IsFedState s []) (blank : IsBlank s) where
-  may : may_ask s ≡ true
+  may : can_be_asked s ≡ true
   may = rw (fed.mark, blank.asked) refl
 
+  -- If the state may ask, the result of asking does not depend on the state. The same for a signature file
+  -- that was not parsed yet (asks_under).
   pub asks : (v : PublicKeyValue) (signature : SignatureValue) (text : List ℕ) (room : ℕ)
-      → asking_result s v signature text false room ≡ asking_checks v signature text false room
+      → result_of_asking s v signature text false room ≡ check_ask_arguments v signature text false room
   asks v signature text room =
-      ap (λ (b : Bool). if b then asking_checks v signature text false room else Err (WrongUse
+      ap (λ (b : Bool). if b then check_ask_arguments v signature text false room else Err (WrongUse
       (asking_misuse s))) may
 
   pub asks_under : (v : PublicKeyValue) (text : List ℕ) (room : ℕ)
-      → asking_under s v text false room ≡ with_public_key v (asked_under (read_under v false text) room)
+      → result_of_asking_with_text s v text false room ≡ with_public_key v (check_buffer_if_read
+      (read_under v false text) room)
   asks_under v text room =
-      ap (λ (b : Bool). if b then with_public_key v (asked_under (read_under v false text) room)
+      ap (λ (b : Bool). if b then with_public_key v (check_buffer_if_read (read_under v false text) room)
       else Err (WrongUse (asking_misuse s))) may
 
 -- == The space for the message ==
@@ -59,6 +60,7 @@ fits : (s b : Bool) → asked_strictly s (if b then Ok tt else Err (WrongUse NoR
 fits s true h = refl
 fits s false h = cc h
 
+-- If asking succeeds, the message fits into the buffer.
 has_room : (s p : Bool) (c : Result (List ℕ) Misuse) (j : Result ⊤ Fault) (n room : ℕ)
     → asked_strictly s (if p then after_comment_check c (after_key_check j (check_buffer n room))
     else Err (WrongUse PublicKeyNotRead)) ≡ Ok true
@@ -70,7 +72,7 @@ has_room s false c j n room h = cc h
 
 -- If asking succeeds, the message fits into the buffer.
 pub room_is_enough : (s : Bool) (v : PublicKeyValue) (signature : SignatureValue) (text : List ℕ) (room : ℕ)
-    → asked_strictly s (asking_checks v signature text false room) ≡ Ok true
+    → asked_strictly s (check_ask_arguments v signature text false room) ≡ Ok true
     → 64 + signature.comment_len ≤ room
 room_is_enough s v signature text room h =
     has_room s (is_public_key v) (comment_of signature text)
@@ -130,6 +132,7 @@ named_as : (b : Bool) (trusted : List ℕ) (l : ListValue)
 named_as true trusted l = refl
 named_as false trusted l = refl
 
+-- The verdict from the results of the checks is that of the definition.
 judged_as : (j : Result ⊤ Fault) (name : Option (List ℕ)) (trusted : List ℕ) (l : ListValue)
     → (judged_list (and_then (wrap_library_error j) (λ _. named (named_number name trusted == 1))) l).0
     ≡ given_list (and_then (wrap_library_error (texts.and_then j (λ _. Ok trusted)))

@@ -56,6 +56,7 @@ split_later p x es e is s = record {
   others = rw is s.others;
 }
 
+-- If exactly one entry has a property, the entries before and after it do not have it.
 split : (p : Entry → Bool) (es : List Entry) (e : Entry) → filter p es ≡ e ∷ [] → Split p es e
 split p [] e h = absurd (cc h)
 split p (x ∷ es) e h = elim (cases_Bool (p x)) [
@@ -63,6 +64,7 @@ split p (x ∷ es) e h = elim (cases_Bool (p x)) [
   | inr is ↦ split_later p x es e is (split p es e (rw is at h))
 ]
 
+-- The other direction.
 joined : (p : Entry → Bool) (before : List Entry) (e : Entry) (after : List Entry) → p e ≡ true
     → list_any p (before ++ after) ≡ false → filter p (before ++ e ∷ after) ≡ e ∷ []
 joined p [] e after is others = rw is (ap (λ l. e ∷ l) (filters_to_nothing p after others))
@@ -94,6 +96,7 @@ listed_if_only long list name e es (x ∷ []) named read is h =
     }
 listed_if_only long list name e es (_ ∷ _ ∷ _) named read is h = absurd (cc h)
 
+-- If listed_entry returns an entry, IsListed holds for it. listed_gives_entry is the other direction.
 listed : (long : LongDigest) (list name : List ℕ) (e : Entry) (named : Bool)
     (r : Result (List Entry) ListFault) → is_name name ≡ named → read_list long list ≡ r
     → cond named (and_then r (λ es. only_entry (filter (has_name (without_dot name)) es))) (Err BadName)
@@ -110,6 +113,7 @@ listed_gives_entry long list name e l =
     rw (l.named, l.entries)
     (ap only_entry (joined (has_name (without_dot name)) l.before e l.after l.of_name l.others))
 
+-- listed_entry returns an entry exactly if IsListed holds for it.
 pub decided : (long : LongDigest) (list name : List ℕ)
     → IsReading (IsListed long list name) (listed_entry long list name)
 unfolding listed_entry

@@ -98,6 +98,7 @@ set_next xs old v fits =
 
 module _ (long : LongDigest) (text : List ℕ) (old new : List EntryValue) (n count : ℕ) (rest more : List ℕ)
     (es : List Entry) where
+  -- Reading one more line keeps what IsWritten says.
   step : (r : Result (Option Entry) ListFault) (next : ℕ) (to : List EntryValue)
       → (w : IsWritten long text old new n count rest es) → line_in r (n + 1) ≡ n + 1
       → and_then r (λ entry. map_ok (λ more. option_to_list entry ++ more) (read_entries long (n + 1 + 1)
@@ -153,6 +154,7 @@ module _ (long : LongDigest) (text : List ℕ) (old new : List EntryValue) (n co
             ∙ ap (λ k. map f (w.done ++ e ∷ []) ++ drop k old) after_done;
       }
 
+  -- The same for a line of the text.
   pub line_written : (line : List ℕ) (next : ℕ) (to : List EntryValue)
       → IsWritten long text old new n count rest es → lines rest ≡ line ∷ lines more
       → rest ≡ without_lines n text → length es ≤ length old → length new ≡ length old
@@ -162,6 +164,7 @@ module _ (long : LongDigest) (text : List ℕ) (old new : List EntryValue) (n co
       step (read_line long (n + 1) line) next to w (line_of long (n + 1) line)
       (ap (read_entries long (n + 1)) (sym first) ∙ w.unread_entries) at room len put
 
+  -- After the last line, all entries are in the buffer.
   pub all_written : IsWritten long text old new n count rest es → lines rest ≡ []
       → new ≡ map (value_in text) es ++ drop (length es) old
   all_written w end =

@@ -80,6 +80,7 @@ or_true : (a b : Bool) → a ≡ false → (a || b) ≡ true → b ≡ true
 or_true true b is h = absurd (cc is)
 or_true false b is h = h
 
+-- A list that is empty or ends with a line feed is split into its lines and an empty rest.
 ended : (list : List ℕ) → is_ended list ≡ true → Ended list
 ended [] h = record {
   front = [];
@@ -104,6 +105,7 @@ lines_front (x ∷ y ∷ front) part parts =
 
 -- == A line without control characters ==
 
+-- Both sides of a false disjunction are false.
 pub or_left : (a b : Bool) → (a || b) ≡ false → a ≡ false
 or_left true b h = h
 or_left false b h = refl
@@ -112,6 +114,7 @@ pub or_right : (a b : Bool) → (a || b) ≡ false → b ≡ false
 or_right true b h = absurd (cc h)
 or_right false b h = h
 
+-- A text without control characters has none at any index.
 pub no_control : (x : List ℕ) (i c : ℕ) → list_any is_control x ≡ false → is_control c ≡ true
     → slice_index x i ≡ c → i < length x → ⊥
 no_control [] i c h control at within = absurd (omega (arith, within))
@@ -132,6 +135,7 @@ no_feed (b ∷ x) h = All-cons (λ c. is_feed c ≡ false) b x (not_feed b (or_l
     (list_any is_control x) h))
     (no_feed x (or_right (is_control b) (list_any is_control x) h))
 
+-- No carriage return is removed from a text without control characters.
 not_stripped : (x : List ℕ) → 0 < length x → list_any is_control x ≡ false → strip_carriage_return x ≡ x
 not_stripped x some h = elim (cases_Bool (slice_index x (length x - 1) == 13)) [
   | inl is ↦ absurd (no_control x (length x - 1) 13 h refl (eqb-true (slice_index x (length x - 1)) 13 is)
@@ -169,6 +173,8 @@ options None None (Some c) d e w h = h
 options None None None (Some d) e w h = h
 options None None None None e w h = absurd (cc h)
 
+-- A line that is well formed if 128 digits are rejected has the same entry for each choice of their hash
+-- function.
 written_strictly : (l : LongDigest) (line : List ℕ) (w : NamedDigest) → written_in strict line ≡ Some w
     → written_in l line ≡ Some w
 written_strictly l line w h =
@@ -242,6 +248,7 @@ first_more l n y ls x es e (Ok o) behind is h =
     rw (read_strictly l n y o is, behind t.tail t.is)
     (ap Ok (sym (append_assoc (option_to_list o) t.tail (e ∷ [])) ∙ ap (λ z. z ++ e ∷ []) (sym t.whole)))
 
+-- The entries of some lines and one more, for each choice of the hash function of 128 digits.
 pub entries_more : (l : LongDigest) (n : ℕ) (ls : List (List ℕ)) (x : List ℕ) (es : List Entry) (e : Entry)
     → read_entries strict n ls ≡ Ok es → read_line l (n + length ls) x ≡ Ok (Some e)
     → read_entries l n (ls ++ x ∷ []) ≡ Ok (es ++ e ∷ [])

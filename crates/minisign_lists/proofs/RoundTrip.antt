@@ -101,6 +101,7 @@ then_not_missing : {V W : Type 0} (r : Result V ListFault) (more : V → Result 
 then_not_missing (Ok v) more h all = all v
 then_not_missing (Err e) more h all = h
 
+-- Reading the entries never has the error NotListed, so only the lookup of the name has it.
 entries_found : (l : LongDigest) (n : ℕ) (ls : List (List ℕ)) → is_missing (read_entries l n ls) ≡ false
 entries_found l n [] = refl
 entries_found l n (x ∷ ls) = then_not_missing (read_line l n x) _ (line_found l n x)
@@ -111,6 +112,7 @@ not_listed_is_empty [] h = refl
 not_listed_is_empty (e ∷ []) h = absurd (cc h)
 not_listed_is_empty (e ∷ second ∷ es) h = absurd (cc (ap is_missing h))
 
+-- If looking up the name returns NotListed, the list is well formed, and no entry has the name.
 free_if_not_listed : (list name : List ℕ) (named : Bool) (r : Result (List Entry) ListFault)
     → is_name name ≡ named
     → read_list long.Rejected list ≡ r → is_missing r ≡ false
@@ -256,6 +258,7 @@ module _ (buffer : List ℕ) (len : ℕ) (line : List ℕ) (n : ℕ) (new : List
     whole = sym (ap (λ p. p.1) h);
   }
 
+  -- If appending succeeds, the line is accepted, the buffer has room for it, and the line follows the old list.
   returned : (c : Result ⊤ (Refusal ListFault)) → appended_line c buffer len line ≡ (Ok n, new)
       → IsAppended c buffer len line n new
   returned (Err r) h = absurd (cc (ap (λ p. ok_in p.0) h))
@@ -263,6 +266,7 @@ module _ (buffer : List ℕ) (len : ℕ) (line : List ℕ) (n : ℕ) (new : List
       let room = nat_le (len + length line) (length buffer) in
       with_room room refl (sym (of_room room) ∙ h)
 
+-- If appending an entry succeeds, the longer list has its old entries and the new one.
 pub appended_is_read_back : (l : LongDigest) (buffer : List ℕ) (len n : ℕ) (d : ListedDigest)
     (name new : List ℕ)
     → IsBytes (bytes_of d) → length (bytes_of d) ≡ digest_size d → appended buffer len d name ≡ (Ok n, new)

@@ -23,6 +23,7 @@ use Rattle.minisign_lists.proofs.MoreLines.{or_left, or_right}
 
 -- == Names ==
 
+-- A path does not begin with ./
 dot : (m : List ℕ) → is_path (46 ∷ 47 ∷ m) ≡ true → ⊥
 dot m h = cc h
 
@@ -71,6 +72,7 @@ label_clean algorithm.Sha256 = refl
 label_clean algorithm.Sha512 = refl
 label_clean algorithm.Blake2b = refl
 
+-- The line contains no control characters and is not empty (line_some).
 pub line_clean : (d : ListedDigest) (m : List ℕ) → IsBytes (bytes_of d) → list_any is_control m ≡ false
     → list_any is_control (line_text d m) ≡ false
 line_clean d m bytes name =
@@ -190,6 +192,7 @@ module _ (l : LongDigest) (m bytes : List ℕ) (are : IsBytes bytes) where
       tagged algorithm.Blake2b m (encode_lower bytes) (long_digits 64 size) ∙ rw read refl in
       rw (first, second, third) refl
 
+-- The line has one of the forms, with this digest and this name.
 written : (l : LongDigest) (d : ListedDigest) (m : List ℕ) → IsBytes (bytes_of d)
     → length (bytes_of d) ≡ digest_size d
     → written_in l (line_text d m) ≡ Some (on_line d m)
@@ -203,6 +206,7 @@ not_comment (listed.Sha256 bytes) m = refl
 not_comment (listed.Sha512 bytes) m = refl
 not_comment (listed.Blake2b bytes) m = refl
 
+-- The line does not begin with a backslash.
 not_marked : (d : ListedDigest) (m : List ℕ) → begins_with_backslash (line_text d m) ≡ false
 not_marked (listed.Sha256 bytes) m = refl
 not_marked (listed.Sha512 bytes) m = refl

@@ -7,6 +7,7 @@ use Rattle.std.specs.List.{slice_split}
 abbrev pub is_tab : ℕ → Bool
 is_tab b = b == 9
 
+-- The label of the field with the name of the file. For a list, this is the name of the list.
 abbrev pub file_label : List ℕ
 file_label = codes "file:"
 

@@ -5,6 +5,7 @@ use Rattle.minisign_lists.specs.declared.digests.Algorithm.TheVariants.{Sha256, 
 use Rattle.minisign_lists.specs.declared.lines.LongDigest.{LongDigest}
 use Rattle.minisign_lists.specs.declared.lines.LongDigest.TheVariants as long
 
+-- The number of a hash function.
 abbrev pub hash_number : Algorithm → ℕ
 hash_number Sha256 = 1
 hash_number Sha512 = 2

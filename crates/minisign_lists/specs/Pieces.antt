@@ -37,6 +37,7 @@ IsFedFile file verdict m =
     (digest : ListedDigest) × IsFedCheck file.check digest m
     × ((m : List ℕ) → verdict m ≡ (if has_digest digest m then Ok file.comment.now else Err DigestMismatch))
 
+-- A line feed.
 abbrev pub is_feed : ℕ → Bool
 is_feed b = b == 10
 

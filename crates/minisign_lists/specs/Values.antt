@@ -122,6 +122,7 @@ abbrev pub go_on : {V W : Type 0} → Result V (Refusal ListFault) → (V → Re
 go_on (Ok v) more = more v
 go_on (Err r) more = Err r
 
+-- Applies a function to the value, or returns the error.
 abbrev pub mapped : {V W : Type 0} → (V → W) → Result V (Refusal ListFault) → Result W (Refusal ListFault)
 mapped f (Ok v) = Ok (f v)
 mapped f (Err r) = Err r
@@ -235,6 +236,7 @@ abbrev pub digest_numbered : Option Algorithm → List ℕ → Result ListedDige
 digest_numbered None bytes = Err EntryNotRead
 digest_numbered (Some a) bytes = Ok (digest_of_padded a bytes)
 
+-- The digest in the struct of an entry, or EntryNotRead if no entry was read.
 abbrev pub entry_digest : EntryValue → Result ListedDigest Misuse
 entry_digest v =
     if v.mark == entry_mark then digest_numbered (algorithm_numbered v.hash) v.digest else Err EntryNotRead
@@ -252,6 +254,8 @@ digest_of_bytes algorithm.Sha256 bytes = if length bytes == 32 then Some (listed
 digest_of_bytes algorithm.Sha512 bytes = if length bytes == 64 then Some (listed.Sha512 bytes) else None
 digest_of_bytes algorithm.Blake2b bytes = if length bytes == 64 then Some (listed.Blake2b bytes) else None
 
+-- These bytes as a digest of the hash function, or None if there is no hash function or its digests have
+-- another length.
 abbrev pub digest_of_given : Option Algorithm → List ℕ → Option ListedDigest
 digest_of_given None bytes = None
 digest_of_given (Some a) bytes = digest_of_bytes a bytes
@@ -270,6 +274,7 @@ compared_digest v given =
     else Err (WrongUse BadHash)
     else Err (WrongUse EntryNotRead)
 
+-- The result of comparing it with a digest that was passed, or BadHash if none was.
 abbrev pub compared_given : EntryValue → Option ListedDigest → Result ⊤ (Refusal ListFault)
 compared_given v None = Err (WrongUse BadHash)
 compared_given v (Some given) = compared_digest v given

@@ -18,10 +18,12 @@ check_list_name (Some list_name) comment = if names_list list_name comment then 
 abbrev pub check_digest : ListedDigest → List ℕ → Result ⊤ ListFault
 check_digest digest m = if has_digest digest m then Ok tt else Err DigestMismatch
 
--- The verdict on data under its name in a signed list: the trusted comment of the list if the two
--- texts are those of a public key and of a signature that is valid for the list, the comment names
--- the list, the list has exactly one entry of the name, and the data has the digest of that entry;
--- and otherwise the first of these checks that fails. A legacy signature is always rejected.
+-- The verdict on data under its name in a signed list. The checks are, in this order: `pk_text` is a public
+-- key file, and `sig_text` is a signature file that is valid for the list under this key; the trusted comment
+-- names the list, if `list_name` is given; the list has exactly one entry for the name; and the data has the
+-- digest of this entry. If all checks pass, the result is the trusted comment, otherwise the error of the
+-- first check that fails. A legacy signature is always rejected. `long` is the hash function of digests with
+-- 128 hexadecimal digits on lines of the list that do not name one.
 unfoldable pub listed_verdict : Verifier → List ℕ → List ℕ → Option (List ℕ) → LongDigest → List ℕ → List ℕ
     → List ℕ → Result (List ℕ) ListFault
 listed_verdict accepts pk_text sig_text list_name long list name m =

@@ -34,15 +34,15 @@ written_line digest name = label (algorithm_of digest) ++ (name ++ line_end dige
 abbrev pub is_ended : List ℕ → Bool
 is_ended list = (length list == 0) || (slice_index list (length list - 1) == 10)
 
--- Succeeds if the result of looking up the name is that it is not in the list, and the list is empty or ends
--- with a line feed.
+-- Checks that the name is free, so that an entry for it can be appended: looking it up had the result that it
+-- is not in the list, and the list is empty or ends with a line feed.
 abbrev pub free_name : Result Entry ListFault → List ℕ → Result ⊤ ListFault
 free_name (Ok e) list = Err (ListedTwice e.line)
 free_name (Err NotListed) list = if is_ended list then Ok tt else Err (MalformedLine 0)
 free_name (Err e) list = Err e
 
--- The checks before appending an entry of this name to the list, which is the first len bytes of a buffer.
--- They do not include the space that the new line needs.
+-- The checks before appending an entry for this name to the list, which is the first len bytes of a buffer.
+-- Whether the entry's line fits into the rest of the buffer is checked later, by `appended_line`.
 abbrev pub append_check : List ℕ → ℕ → List ℕ → Result ⊤ (Refusal ListFault)
 append_check buffer len name =
     if nat_le len (length buffer)
@@ -61,7 +61,7 @@ appended_line (Ok t) buffer len line =
 appended_line (Err r) buffer len line = (Err r, buffer)
 
 -- The outcome of appending an entry: the new length or the error of the first check that fails,
--- and the buffer.
+-- and the buffer. The name is written without a leading `./`.
 abbrev pub appended : List ℕ → ℕ → ListedDigest → List ℕ → Result ℕ (Refusal ListFault) × List ℕ
 appended buffer len digest name =
     appended_line (append_check buffer len name) buffer len (written_line digest (without_dot name))
@@ -82,9 +82,10 @@ digest_size (listed.Sha256 digest) = 32
 digest_size (listed.Sha512 digest) = 64
 digest_size (listed.Blake2b digest) = 64
 
--- The longer list parses to the entries of the list and one more, with this digest and this name, for each
--- choice of the hash function of 128 digits. No other entry has the name, so looking it up finds the new
--- entry.
+-- The longer list parses to the entries of the list and one more, with this digest and this name. No other
+-- entry has the name, so looking it up finds the new entry. `l` is the hash function that the caller chooses
+-- for digests of 128 hexadecimal digits on lines that do not name one. The choice does not matter here: the
+-- list has no such lines, and the new line names its hash function.
 pub record IsReadBack (l : LongDigest) (list longer : List ℕ) (digest : ListedDigest) (name : List ℕ) : Type 0
   where
     pub before : List Entry

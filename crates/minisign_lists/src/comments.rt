@@ -25,7 +25,7 @@ fn split_field(text: &[u8]) -> Option<(&[u8], &[u8])>
     }
 }
 
-// Returns the first field of a comment that begins with `file:`.
+// Returns the first `file:` field of a comment.
 fn file_field(comment: &[u8]) -> Option<&[u8]>
     ensures { option_copied result ≡ find has_label (slice_split is_tab comment.now) }
 {

@@ -14,9 +14,9 @@ ghost use Rattle.minisign.specs.SignatureText.{SignatureTextRecord};
 ghost use Rattle.minisign.specs.Acceptance.{Verifier};
 ghost use Rattle.minisign_external.specs.Questions.{Answers, read_under};
 ghost use Rattle.minisign_external.specs.Signatures.{IsReadFrom, comment_of};
-ghost use Rattle.minisign_external.specs.States.{AreQuestionsWithoutDigest, AreQuestions, asking_checks};
-ghost use Rattle.minisign_external.specs.States.{HoldsCommentMessage, asked_under, questions_about};
-ghost use Rattle.minisign_external.specs.States.{with_public_key};
+ghost use Rattle.minisign_external.specs.States.{AreQuestionsWithoutDigest, AreQuestions};
+ghost use Rattle.minisign_external.specs.States.{check_ask_arguments, HoldsCommentMessage};
+ghost use Rattle.minisign_external.specs.States.{check_buffer_if_read, questions_for_value, with_public_key};
 ghost use Rattle.minisign_external.specs.StrictCalls.{asked_strictly, is_strict_text, is_strict_value};
 ghost use Rattle.minisign_external.specs.declared.public_keys.PublicKeyValue.{PublicKeyValue};
 ghost use Rattle.minisign_external.specs.declared.state.Misuse.TheVariants.{NotBegun};
@@ -276,13 +276,13 @@ impl ListValue {
     ) -> std::result::Result<bool, Refusal>
         // The result is that of `State::ask_strictly` for a new state, without legacy signatures.
         ensures value { result ≡ asked_strictly (is_strict_value key.now signature.now)
-            (asking_checks key.now signature.now sig_text.now false (length message.old)) }
+            (check_ask_arguments key.now signature.now sig_text.now false (length message.old)) }
 
         // If the signature was read from this text, the result is the same as if the text were parsed here
         // and checked under this key.
         ensures text { (t : SignatureTextRecord) → IsReadFrom signature.now sig_text.now t
             → result ≡ asked_strictly (is_strict_text key.now t) (with_public_key key.now
-            (asked_under (read_under key.now false sig_text.now) (length message.old))) }
+            (check_buffer_if_read (read_under key.now false sig_text.now) (length message.old))) }
 
         // **If the result is true and the signature was read from this text, the questions are those about
         // the key and the text, with the digest of the list. The struct records the digest, whether the
@@ -299,7 +299,8 @@ impl ListValue {
         ensures list { result ≡ Ok true → (c : List ℕ) → comment_of signature.now sig_text.now ≡ Ok c
             → self.new ≡ asked_list key.now signature.now (option_map (λ n. n.now) list_name.entry)
             text.now c }
-        ensures questions { result ≡ Ok true → questions.new ≡ record (questions_about key.now signature.now)
+        ensures questions { result ≡ Ok true
+            → questions.new ≡ record (questions_for_value key.now signature.now)
             { digest = blake2b_digest 64 text.now } }
         ensures message { result ≡ Ok true → HoldsCommentMessage signature.now sig_text.now message.new }
 
@@ -478,15 +479,15 @@ fn ask_once(
     message: &mut [u8],
 ) -> std::result::Result<bool, Refusal>
     ensures value { result ≡ asked_strictly (is_strict_value key.now signature.now)
-        (asking_checks key.now signature.now sig_text.now false (length message.old)) }
+        (check_ask_arguments key.now signature.now sig_text.now false (length message.old)) }
     ensures text { (t : SignatureTextRecord) → IsReadFrom signature.now sig_text.now t
         → result ≡ asked_strictly (is_strict_text key.now t) (with_public_key key.now
-        (asked_under (read_under key.now false sig_text.now) (length message.old))) }
+        (check_buffer_if_read (read_under key.now false sig_text.now) (length message.old))) }
     ensures asked { result ≡ Ok true → (t : SignatureTextRecord) → IsReadFrom signature.now sig_text.now t
         → (read_under key.now false sig_text.now ≡ Ok t) × AreQuestionsWithoutDigest questions.new
         message.new key.now t }
     ensures room { result ≡ Ok true → 64 + signature.now.comment_len ≤ length message.old }
-    ensures questions { result ≡ Ok true → questions.new ≡ questions_about key.now signature.now }
+    ensures questions { result ≡ Ok true → questions.new ≡ questions_for_value key.now signature.now }
     ensures message { result ≡ Ok true → HoldsCommentMessage signature.now sig_text.now message.new }
     ensures rest_unchanged { result ≡ Ok true
         → drop questions.new.message_len message.new ≡ drop questions.new.message_len message.old }
@@ -496,8 +497,8 @@ fn ask_once(
     state.ask_strictly(key, signature, sig_text, false, questions, message)
 }
 
-// Returns the struct of a list after `ask`. The text of the list has this digest, and `message`
-// begins with the message of the second question: the data signature and the trusted comment.
+// Returns the struct of a list after `ask`. The text of the list has this digest, and `message` begins with
+// the message of the second check: the data signature followed by the trusted comment.
 fn asked_list(
     key: &PublicKeyValue,
     signature: &SignatureValue,

@@ -26,8 +26,9 @@ fn check_list_name(list_name: Option<&str>, comment: &str) -> Result<()>
 }
 
 /// Verifies a list with the texts of a public key and a signature, and compares data in memory with
-/// the entry for `name`. Returns the trusted comment of the list. Does not allocate. `room` is
-/// scratch space, which must be at least as long as the text of the signature.
+/// the entry for `name`. Returns the trusted comment of the list. Does not allocate. `long` is the
+/// hash function of 128 digits on a line of the list that does not name it. `room` is scratch space,
+/// which must be at least as long as the text of the signature.
 ///
 /// Errors come in this order: those of `minisign::verify_in_place` for the list, with legacy
 /// signatures always rejected; `OtherList`, if `list_name` is given and the first `file:` field of
@@ -89,6 +90,7 @@ impl<'a> ListedFile<'a> {
         // `verify_listed`.
         ensures fed { IfOk result (λ file. IsFedFile file (listed_verdict (S.accepts scheme.now) pk_text.now
             sig_text.now (option_map (λ n. n.now) list_name.entry) long list.now name.now) []) }
+        // The calls of `update` and `finish` are allowed.
         ensures usable { IfOk result IsOpen }
 
         // After an error, `verify_listed` would return the same error for all data.
@@ -111,6 +113,7 @@ impl<'a> ListedFile<'a> {
         // The piece is appended to the data that the file was fed.
         ensures fed { (verdict : List ℕ → Result (List ℕ) ListFault) (m : List ℕ)
             → IsFedFile self.old verdict m → IsFedFile self.new verdict (m ++ piece.now) }
+        // More calls are allowed.
         ensures usable { IsOpen self.new }
     {
         self.check.update(piece);

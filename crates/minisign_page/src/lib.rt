@@ -19,14 +19,12 @@ ghost use Rattle.minisign_external.specs.Numbers.{refusal_number};
 ghost use Rattle.minisign_external.specs.PublicKeys.{read_utf8, key_outcome_number};
 ghost use Rattle.minisign_external.specs.Signatures.{IsReadFrom, read_signature_value, signature_outcome};
 ghost use Rattle.minisign_external.specs.Signatures.{comment_of};
-ghost use Rattle.minisign_external.specs.States.{HoldsCommentMessage, asked_about, questions_about};
-ghost use Rattle.minisign_external.specs.States.{AreQuestionsWithoutDigest, GivesNumber, HasAsked};
-ghost use Rattle.minisign_external.specs.States.{HasReturnedDigest};
-ghost use Rattle.minisign_external.specs.States.{IsAnswered};
-ghost use Rattle.minisign_external.specs.States.{IsBlank, IsFedState, IsMarkedFed, IsMarkedFinalized};
-ghost use Rattle.minisign_external.specs.States.{KeepsQuestions};
-ghost use Rattle.minisign_external.specs.States.{asking_checks, asking_under, feeding_misuse};
-ghost use Rattle.minisign_external.specs.States.{verdict_outcome_number, verdict_number};
+ghost use Rattle.minisign_external.specs.States.{HoldsCommentMessage, state_after_asking};
+ghost use Rattle.minisign_external.specs.States.{questions_for_value, AreQuestionsWithoutDigest, GivesNumber};
+ghost use Rattle.minisign_external.specs.States.{WasAskedAbout, HasReturnedDigest, IsAnswered, IsBlank};
+ghost use Rattle.minisign_external.specs.States.{IsFedState, IsMarkedFed, IsMarkedFinalized, KeepsQuestions};
+ghost use Rattle.minisign_external.specs.States.{check_ask_arguments, result_of_asking_with_text};
+ghost use Rattle.minisign_external.specs.States.{feeding_misuse, verdict_outcome_number, verdict_number};
 ghost use Rattle.minisign_external.specs.StrictCalls.{asked_number, asked_strictly, strict_asking_number};
 ghost use Rattle.minisign_external.specs.StrictCalls.{is_strict_text, is_strict_value};
 ghost use Rattle.minisign_external.specs.declared.public_keys.PublicKeyValue.{PublicKeyValue};
@@ -91,8 +89,8 @@ pub extern "C" fn page_init(state: &mut State)
 /// Feeds the next bytes of the data.
 #[unsafe(no_mangle)]
 pub extern "C" fn page_update(state: &mut State, piece: &[u8]) -> u32
-    // On success, the piece is appended to the data that the state was fed. The record of the questions that
-    // were asked is unchanged. The call fails only if the digest was already returned, or if the state was
+    // On success, the piece is appended to the data that the state was fed. What the state records about
+    // being asked is unchanged. The call fails only if the digest was already returned, or if the state was
     // never initialized or was finished by a verdict. Then the result is the number of that error, and the
     // state is unchanged.
     ensures fed { (m : List ℕ) → IsFedState state.old m → (result ≡ 0)
@@ -112,9 +110,9 @@ pub extern "C" fn page_update(state: &mut State, piece: &[u8]) -> u32
 #[unsafe(no_mangle)]
 pub extern "C" fn page_digest(state: &mut State, digest: &mut [u8; 64]) -> u32
     // On success, the digest is the Blake2b digest (64 bytes) of all data that the state was fed, and the
-    // state accepts no more data. The record of the questions that were asked is unchanged. The call fails
-    // only if the digest was already returned, or if the state was never initialized or was finished by a
-    // verdict. Then the result is the number of that error, and the state and the digest are unchanged.
+    // state accepts no more data. What the state records about being asked is unchanged. The call fails only
+    // if the digest was already returned, or if the state was never initialized or was finished by a verdict.
+    // Then the result is the number of that error, and the state and the digest are unchanged.
     ensures digest { (m : List ℕ) → IsFedState state.old m
         → (result ≡ 0) × (digest.new ≡ blake2b_digest 64 m) × HasReturnedDigest state.new m }
     ensures questions_kept { KeepsQuestions state.old state.new }
@@ -197,22 +195,23 @@ pub extern "C" fn page_ask(
     // the text were parsed here and checked under this key.
     ensures text { (t : SignatureTextRecord) → IsReadFrom signature.now sig_text.now t → allow_legacy < 2
         → result ≡ asked_number (asked_strictly (is_strict_text key.now t)
-        (asking_under state.old key.now sig_text.now (allow_legacy == 1) (length message.old))) }
+        (result_of_asking_with_text state.old key.now sig_text.now (allow_legacy == 1)
+        (length message.old))) }
 
-    // **On success, if the signature was read from this text, `questions` holds the two questions about the
-    // key and the text, with zeros in place of the digest, and the message of the second question is at the
-    // start of the buffer. The state records that it was asked. The data that it was fed is unchanged.**
+    // **On success, if the signature was read from this text, `questions` holds the inputs of the two checks
+    // for the key and the text, with zeros in place of the digest, and the message of the second check is at
+    // the start of the buffer. The state records that it was asked. The data that it was fed is unchanged.**
     ensures asked { result ≡ 0 → (t : SignatureTextRecord) → IsReadFrom signature.now sig_text.now t
         → (read_under key.now (allow_legacy == 1) sig_text.now ≡ Ok t)
         × AreQuestionsWithoutDigest questions.new message.new
-        key.now t × HasAsked state.new key.now sig_text.now (allow_legacy == 1) }
+        key.now t × WasAskedAbout state.new key.now sig_text.now (allow_legacy == 1) }
     ensures fed { (m : List ℕ) → IsFedState state.old m → IsFedState state.new m }
 
     // On success, whatever the signature was read from: the state only records that it was asked about this
-    // signature, the questions are those about the key and the signature, and the message is the data
-    // signature followed by the trusted comment.
-    ensures state { result ≡ 0 → state.new ≡ asked_about state.old signature.now }
-    ensures questions { result ≡ 0 → questions.new ≡ questions_about key.now signature.now }
+    // signature, the questions are those for the key and the signature, and the message is the data signature
+    // followed by the trusted comment.
+    ensures state { result ≡ 0 → state.new ≡ state_after_asking state.old signature.now }
+    ensures questions { result ≡ 0 → questions.new ≡ questions_for_value key.now signature.now }
     ensures message { result ≡ 0 → HoldsCommentMessage signature.now sig_text.now message.new }
 
     // On success, if the signature was read from this text, neither the key nor a signature in the text is
@@ -303,15 +302,15 @@ pub extern "C" fn page_list_ask(
     // not the one that it was read from; the key IDs differ; the signature is a legacy one; the buffer is too
     // short; the key or a signature is weak. If none of them applies, the result is 0.
     ensures number { result ≡ asked_number (asked_strictly (is_strict_value key.now signature.now)
-        (asking_checks key.now signature.now sig_text.now false (length message.old))) }
+        (check_ask_arguments key.now signature.now sig_text.now false (length message.old))) }
 
     // If the signature was read from this text, the result is the same as if the text were parsed here and
     // checked under this key.
     ensures text { (t : SignatureTextRecord) → IsReadFrom signature.now sig_text.now t
         → result ≡ asking_list_number key.now sig_text.now t (length message.old) }
 
-    // **On success, if the signature was read from this text, `questions` holds the two questions about the
-    // key and the text, with the digest of the list. `list` records this digest, whether the comment
+    // **On success, if the signature was read from this text, `questions` holds the inputs of the two checks
+    // for the key and the text, with the digest of the list. `list` records this digest, whether the comment
     // signature has at least 64 bytes, and whether the trusted comment names the list.**
     ensures asked { result ≡ 0 → (t : SignatureTextRecord) → IsReadFrom signature.now sig_text.now t
         → (read_under key.now false sig_text.now ≡ Ok t)
@@ -319,11 +318,11 @@ pub extern "C" fn page_list_ask(
         × (list.new ≡ asked_list key.now signature.now (Some list_name.now) text.now t.comments.trusted) }
 
     // On success, whatever the signature was read from: `list` records what it was asked about, the questions
-    // are those about the key and the signature, with the digest of the list, and the message is the data
+    // are those for the key and the signature, with the digest of the list, and the message is the data
     // signature followed by the trusted comment.
     ensures list { result ≡ 0 → (c : List ℕ) → comment_of signature.now sig_text.now ≡ Ok c
         → list.new ≡ asked_list key.now signature.now (Some list_name.now) text.now c }
-    ensures questions { result ≡ 0 → questions.new ≡ record (questions_about key.now signature.now)
+    ensures questions { result ≡ 0 → questions.new ≡ record (questions_for_value key.now signature.now)
         { digest = blake2b_digest 64 text.now } }
     ensures message { result ≡ 0 → HoldsCommentMessage signature.now sig_text.now message.new }
 
@@ -364,7 +363,7 @@ pub extern "C" fn page_list_ask_any(
     // The promises are those of `page_list_ask`, except that the name of the list is not checked: `list`
     // records for every trusted comment that it names the list.
     ensures number { result ≡ asked_number (asked_strictly (is_strict_value key.now signature.now)
-        (asking_checks key.now signature.now sig_text.now false (length message.old))) }
+        (check_ask_arguments key.now signature.now sig_text.now false (length message.old))) }
     ensures text { (t : SignatureTextRecord) → IsReadFrom signature.now sig_text.now t
         → result ≡ asking_list_number key.now sig_text.now t (length message.old) }
     ensures asked { result ≡ 0 → (t : SignatureTextRecord) → IsReadFrom signature.now sig_text.now t
@@ -373,7 +372,7 @@ pub extern "C" fn page_list_ask_any(
         × (list.new ≡ asked_list key.now signature.now None text.now t.comments.trusted) }
     ensures list { result ≡ 0 → (c : List ℕ) → comment_of signature.now sig_text.now ≡ Ok c
         → list.new ≡ asked_list key.now signature.now None text.now c }
-    ensures questions { result ≡ 0 → questions.new ≡ record (questions_about key.now signature.now)
+    ensures questions { result ≡ 0 → questions.new ≡ record (questions_for_value key.now signature.now)
         { digest = blake2b_digest 64 text.now } }
     ensures message { result ≡ 0 → HoldsCommentMessage signature.now sig_text.now message.new }
     ensures strict { result ≡ 0 → (t : SignatureTextRecord) → IsReadFrom signature.now sig_text.now t

@@ -39,8 +39,8 @@ verifying_call pk_file sig_file data_reader steady old new = record {
 }
 
 -- Nothing was written, or a prefix of the status lines of the box that the texts parse to.
-abbrev pub SaysFront : {W : Type 0} → SinkCall W → List ℕ → List ℕ → Type 0
-SaysFront status pk_text sig_text =
+abbrev pub SaysPrefix : {W : Type 0} → SinkCall W → List ℕ → List ℕ → Type 0
+SaysPrefix status pk_text sig_text =
     (status.new ≡ status.old) ⊎ ((key : PublicKeyRecord) × (box : SignatureBoxRecord)
     × (read_texts pk_text sig_text ≡ Ok (key, box)) × SinkReceivesPrefix status (status_lines box))
 
@@ -71,7 +71,7 @@ FilesFail accepts d status e =
     (EitherFails d.pk_file d.sig_file e × (d.data_reader.new ≡ d.data_reader.old) × (status.new ≡ status.old))
     ⊎ ((pk_text sig_text : List ℕ) × ReadsBoth d.pk_file d.sig_file pk_text sig_text
     × VerifyingTextsFails accepts pk_text sig_text says_only d.data_reader status no_sink e
-    × SaysFront status pk_text sig_text)
+    × SaysPrefix status pk_text sig_text)
 
 -- A file could not be read as a text, and no data was read or copied; or verification with the texts, or
 -- copying, failed.
@@ -83,4 +83,4 @@ FilesFailToCopy accepts d out status e =
     × (status.new ≡ status.old))
     ⊎ ((pk_text sig_text : List ℕ) × ReadsBoth d.pk_file d.sig_file pk_text sig_text
     × VerifyingTextsFails accepts pk_text sig_text says_and_copies d.data_reader status out e
-    × SaysFront status pk_text sig_text)
+    × SaysPrefix status pk_text sig_text)

@@ -53,8 +53,8 @@ VerifyRawFails accepts key_file signature_file reader status e =
     × VerifyingFails accepts key (bare_box signature) says_only reader status no_sink e)
 
 -- Nothing was written, or a prefix of the status line.
-abbrev pub SaysLineFront : {W : Type 0} → SinkCall W → Type 0
-SaysLineFront status = (status.new ≡ status.old) ⊎ SinkReceivesPrefix status (line verified_text)
+abbrev pub SaysLinePrefix : {W : Type 0} → SinkCall W → Type 0
+SaysLinePrefix status = (status.new ≡ status.old) ⊎ SinkReceivesPrefix status (line verified_text)
 
 -- The key and the signature in both files are valid for all of the data, and Said holds for the
 -- status line.
@@ -80,4 +80,4 @@ RawFilesFail accepts pk_file sig_file reader status e =
     × IsReadFault sig_file.source sig_file.old sig_file.new e)) × (reader.new ≡ reader.old)
     × (status.new ≡ status.old))
     ⊎ ((key_file signature_file : List ℕ) × ReadsBoth pk_file sig_file key_file signature_file
-    × VerifyRawFails accepts key_file signature_file reader status e × SaysLineFront status)
+    × VerifyRawFails accepts key_file signature_file reader status e × SaysLinePrefix status)

@@ -1,4 +1,4 @@
-//! The command `cat`: verifies as `verify` does, and copies the verified data.
+//! The command `cat`: verifies data as `verify` does, and copies them to the output.
 
 ghost use Rattle.std.specs.Prelude.{◌≡◌, ◌≤◌, false, true, OnOk, IfErr};
 ghost use Rattle.minisign.specs.DeviceCalls.{SinkReceives, sink_call};
@@ -14,10 +14,11 @@ use minisign::base::scheme::Scheme;
 use minisign::{Result, verify_texts};
 use std::alloc::Global;
 
-/// Verifies as `run_verify` does, and then copies the data to `out`, for which it is read a second
-/// time. `out` is flushed if both readings have the same digest. The data's source must be able to
-/// go back; its place is marked before any data is read. Use the contents of `out` only if 0 is
-/// returned.
+/// Verifies as `run_verify` does, and then reads the data a second time and copies it to `out`. If both
+/// readings have the same digest, `out` is flushed. The data's source must be able to go back: its position
+/// is marked before any data is read. Writes the warning that the scheme is a toy, and after it the status
+/// lines or an error line, to `errors`. Returns the exit status: 0 if the signature is valid and the verified
+/// data were copied, otherwise 1. Use the contents of `out` only if 0 is returned.
 pub fn run_cat<S: Scheme, P: Source, Q: Source, R: Rereader, O: Sink, W: Sink>(
     alloc: Global,
     scheme: &S,
@@ -38,8 +39,9 @@ pub fn run_cat<S: Scheme, P: Source, Q: Source, R: Rereader, O: Sink, W: Sink>(
     // With exit status 0, `out` did not fail.
     ensures out_no_new_fault { result ≡ 0 → O.sink_faults out.new ≡ O.sink_faults out.old }
 
-    // With exit status 1, either a file could not be read as a text, and no data was read, or verification
-    // failed, as `verify_texts` promises. The warning was sent first and the error line last.
+    // With exit status 1, either a file could not be read as a text, and no data was read, or `verify_texts`
+    // failed, as its contract describes; this includes failures to write to `out`. The warning was sent first
+    // and the error line last.
     ensures refused { result ≡ 1 → EndsWithFault W.Sink errors.old errors.new
         (FilesFailToCopy (S.accepts scheme.now) (verifying_call P.Source Q.Source R.Source R.steady
         devices.old devices.new) (sink_call O.Sink out.old out.new)) }

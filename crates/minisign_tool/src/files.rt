@@ -1,6 +1,6 @@
-//! Opens the files that a command names, runs the command's body with them and the standard
-//! streams, and returns the exit status. An error before the body begins is returned, and not
-//! written to the error stream.
+//! Opens the files that a command names, calls the command's function (such as `run_verify`) with them and
+//! the standard streams, and returns the exit status. An error that occurs before this call is returned
+//! instead, and nothing is written to the error stream.
 
 ghost use Rattle.std.specs.Prelude.{◌≡◌, ◌≤◌, ◌⊎◌, ℕ, List, Some, Err, IsOk, IfOk, IfErr};
 ghost use Rattle.minisign.specs.Fault.{Fault, Named};
@@ -47,7 +47,7 @@ pub fn keygen_files<S: Scheme, W: Sink>(
     // the error line were sent.
     ensures errors_received { IfOk result (SaysOnlyFaults W.Sink errors.old errors.new) }
 
-    // The only error before the body begins is `reading failed`, and then nothing was written.
+    // The only error before `run_keygen` is called is `reading failed`, and then nothing was written.
     ensures refused { IfErr result (λ e. (e ≡ Named ReadingFailed) × (errors.new ≡ errors.old)) }
 {
     let random_file = open(rt, "/dev/urandom")?;
@@ -112,8 +112,8 @@ pub fn sign_files<S: Scheme, W: Sink>(
     // the error line were sent.
     ensures errors_received { IfOk result (SaysOnlyFaults W.Sink errors.old errors.new) }
 
-    // The only errors before the body begins are `reading failed` and that of the clock, and then nothing
-    // was written.
+    // The only errors before `run_sign` is called are `reading failed` and that of the clock, and then
+    // nothing was written.
     ensures refused { IfErr result (λ e. ((e ≡ Named ReadingFailed) ⊎ (e ≡ Named ClockIncorrect))
         × (errors.new ≡ errors.old)) }
 {
@@ -174,7 +174,7 @@ pub fn verify_files<S: Scheme, W: Sink>(
     // error line was sent last.
     ensures errors_received { IfOk result (SaysVerdict W.Sink errors.old errors.new) }
 
-    // The only error before the body begins is `reading failed`, and then nothing was written.
+    // The only error before `run_verify` is called is `reading failed`, and then nothing was written.
     ensures refused { IfErr result (λ e. (e ≡ Named ReadingFailed) × (errors.new ≡ errors.old)) }
 {
     let (pk_file, data_file, sig_file) = open_three(rt, pk, file, sig)?;
@@ -205,7 +205,7 @@ pub fn verify_raw_files<S: Scheme, W: Sink>(
     // error line was sent last.
     ensures errors_received { IfOk result (SaysRawVerdict W.Sink errors.old errors.new) }
 
-    // The only error before the body begins is `reading failed`, and then nothing was written.
+    // The only error before `run_verify_raw` is called is `reading failed`, and then nothing was written.
     ensures refused { IfErr result (λ e. (e ≡ Named ReadingFailed) × (errors.new ≡ errors.old)) }
 {
     let pk_file = open(rt, pk)?;
@@ -242,8 +242,8 @@ pub fn cat_files<S: Scheme, W: Sink>(
     // error line was sent last.
     ensures errors_received { IfOk result (SaysVerdict W.Sink errors.old errors.new) }
 
-    // The only errors before the body begins are `reading failed` and data from the file that standard
-    // output is redirected to, and then nothing was written.
+    // The only errors before `run_cat` is called are `reading failed` and `input file is output file`, for
+    // data from the file that standard output is redirected to. Then nothing was written.
     ensures refused { IfErr result (λ e. ((e ≡ Named ReadingFailed) ⊎ (e ≡ input_is_output))
         × (errors.new ≡ errors.old)) }
 {

@@ -45,7 +45,8 @@ fn main(rt: HostRuntime) -> ExitCode {
 }
 
 // Runs the command that the arguments ask for, if they could be read, and returns its exit status.
-// If the run fails before the command's body begins, returns the error and writes nothing.
+// If the run fails before the command's function (such as `run_verify`) is called, returns the error and
+// writes nothing.
 fn run<S: Scheme, W: Sink>(
     rt: &HostRuntime,
     scheme: &S,

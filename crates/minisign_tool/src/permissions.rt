@@ -12,7 +12,7 @@ use std::os::unix::fs::{MetadataExt, PermissionsExt, fchown};
 // The nine permission bits of a file's mode.
 const ALL: u32 = 0o777;
 
-// How often a system call is made at most while signals interrupt it.
+// The maximum number of attempts of a system call that signals interrupt.
 const MAX_INTERRUPTIONS: u32 = 1_000_000;
 
 /// Returns the permission bits for a new file that replaces one with this mode.

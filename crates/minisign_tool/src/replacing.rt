@@ -15,7 +15,7 @@ use std::{fs, io};
 /// The mode of a new file: everybody may read and write it, except for the bits that the umask removes.
 pub const MODE_FOR_ALL: u32 = 0o666;
 
-/// Mode of a new file that only its owner may read and write.
+/// The mode of a new file that only its owner may read and write.
 pub const MODE_FOR_OWNER: u32 = 0o600;
 
 // The maximum number of links that are followed one after another, as in Linux.

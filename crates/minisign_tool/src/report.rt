@@ -1,6 +1,6 @@
-//! Writes to the error stream, each line in one write. If a line cannot be written, the exit status
-//! is still the same. In the contracts of this program a line "was sent" if it was written
-//! completely, or if the error stream failed and received a prefix of it.
+//! Writes the warning, the usage and error lines to the error stream. A failure to write them is ignored:
+//! it does not change the exit status. In the contracts of this program, a line "was sent" if it was
+//! written completely, or if the error stream failed and received a prefix of it.
 
 ghost use Rattle.std.specs.Prelude.{◌≡◌, ◌++◌, codes, MatchResult, OnOk, OnErr};
 ghost use Rattle.std.specs.Io.KnownBytes.{Appends};
@@ -14,7 +14,7 @@ use minisign::base::faults::TEXT_ROOM;
 use minisign::base::helpers::joined;
 use minisign::base::{PError, Result};
 
-/// Warns that the scheme is a toy. This line is always the first. Does not allocate.
+/// Warns that the scheme is a toy. Every run writes this line first. Does not allocate.
 #[tactic(auto, unfolding(crate::specs::Report::warning_line))]
 pub fn warn<W: Sink>(errors: &mut W)
     // The warning was written completely, or the error stream failed and received a prefix of it.
@@ -50,11 +50,13 @@ pub fn report<W: Sink>(errors: &mut W, fault: &PError) -> u8
     1
 }
 
-/// Returns the exit status of a command. If an error occurred before the command's body began, shows the
-/// warning and the error.
+/// Returns the exit status of the program, from the result of a command. An `Ok` holds the exit status,
+/// and the command has written its lines already. An `Err` means that the program failed before it called
+/// the command's function (such as `run_verify`) and that nothing was written yet. In this case, `end`
+/// shows the warning and the error.
 pub fn end<W: Sink>(errors: &mut W, answer: Result<u8>) -> u8
-    // The exit status is that of the command. For an error before its body began, the exit status is 1, and
-    // the warning and the error line were sent.
+    // If the command returned an exit status, the result is this status, and nothing is written. After an
+    // error, the exit status is 1, and the warning and the error line were sent.
     ensures { MatchResult answer (λ s. (result ≡ s) × (errors.new ≡ errors.old))
         (λ e. (result ≡ 1) × ((warned : W) × TakesOrFails W.Sink errors.old warned warning_line
         × TakesOrFails W.Sink warned errors.new (fault_line e))) }
@@ -68,8 +70,8 @@ pub fn end<W: Sink>(errors: &mut W, answer: Result<u8>) -> u8
     }
 }
 
-// Writes the line of an error with this text. One call of `write_all` writes the line if the text
-// has at most 504 bytes, as the text of every named error has. Otherwise, three calls write it.
+// Writes the line of an error with this text. If the text has at most 504 bytes, as the text of every
+// named error has, one call of `write_all` writes the whole line. A longer text takes three calls.
 fn put_fault<W: Sink>(errors: &mut W, text: &[u8]) -> std::result::Result<(), DeviceFault>
     ensures bytes { OnOk result
         (Appends (W.taken errors.old) (W.taken errors.new) (codes "error: " ++ line text.now)) }

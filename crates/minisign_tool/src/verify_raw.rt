@@ -9,7 +9,7 @@ ghost use Rattle.minisign.specs.Acceptance.{verified_text};
 ghost use Rattle.minisign.specs.Texts.{line};
 ghost use Rattle.minisign.specs.Reading.{ReadsWhole};
 ghost use Rattle.minisign_tool.specs.Report.{EndsWithFault, SaysAfterWarning};
-ghost use Rattle.minisign_tool.specs.VerifyRaw.{RawFilesFail, RawFilesVouch, SaysLineFront, VerifyRawFails};
+ghost use Rattle.minisign_tool.specs.VerifyRaw.{RawFilesFail, RawFilesVouch, SaysLinePrefix, VerifyRawFails};
 ghost use Rattle.minisign_tool.specs.VerifyRaw.{VouchesRaw};
 
 use crate::report::{report, warn};
@@ -115,7 +115,7 @@ pub fn verify_raw<S: Scheme, R: Rereader, W: Sink>(
     ensures refused { IfErr result (VerifyRawFails (S.accepts scheme.now) key.now signature.now
         (rereader_call R.Source R.steady data_reader.old data_reader.new)
         (sink_call W.Sink errors.old errors.new)) }
-    ensures prefix_received { OnErr result (SaysLineFront (sink_call W.Sink errors.old errors.new)) }
+    ensures prefix_received { OnErr result (SaysLinePrefix (sink_call W.Sink errors.old errors.new)) }
     ensures prefix_removed { PrefixIsRemoved (R.ahead data_reader.old) (R.ahead data_reader.new) }
 {
     let pk = PublicKey::from_bytes(key)?;

@@ -227,7 +227,15 @@ impl<R: Read> Source for ReaderSource<R> {
 
     ghost faults = { λ s. s.faults.0 };
 
-    fn read(&mut self, buf: &mut [u8]) -> Result<usize, DeviceFault> {
+    // After an error, as many bytes can still be read as before.
+    fn read(&mut self, buf: &mut [u8]) -> Result<usize, DeviceFault>
+        ensures read { HasRead ⟦<ReaderSource<R> as Source>⟧.ahead ⟦<ReaderSource<R> as Source>⟧.behind
+            ⟦<ReaderSource<R> as Source>⟧.since ⟦<ReaderSource<R> as Source>⟧.is_marked
+            ⟦<ReaderSource<R> as Source>⟧.left ⟦<ReaderSource<R> as Source>⟧.faults
+            self.old self.new buf.new result }
+        ensures left { OnErr result
+            (⟦<ReaderSource<R> as Source>⟧.left self.new ≡ ⟦<ReaderSource<R> as Source>⟧.left self.old) }
+    {
         if self.left == 0 && !buf.is_empty() {
             return Err(self.faults.raise());
         }
@@ -245,23 +253,27 @@ impl<R: Read> Source for ReaderSource<R> {
 impl<R: Read> Rereader for ReaderSource<R> {
     ghost steady = { λ _. ⊥ };
 
-    // Always fails. Afterwards the unread bytes are no longer known.
+    // Always fails. Afterwards the unread bytes are no longer known. As many can be read as before.
     fn mark(&mut self) -> Result<(), DeviceFault>
         ensures fails { IsErr result }
         ensures refused { ErrorCountRises (⟦<ReaderSource<R> as Source>⟧.faults self.old)
             (⟦<ReaderSource<R> as Source>⟧.faults self.new) }
         ensures unread_unknown { IsNone (⟦<ReaderSource<R> as Source>⟧.ahead self.new) }
+        ensures left { ⟦<ReaderSource<R> as Source>⟧.left self.new
+            ≡ ⟦<ReaderSource<R> as Source>⟧.left self.old }
     {
         let fault = self.faults.raise();
         Err(fault)
     }
 
-    // Always fails. Afterwards the unread bytes are no longer known.
+    // Always fails. Afterwards the unread bytes are no longer known. As many can be read as before.
     fn back(&mut self) -> Result<(), DeviceFault>
         ensures fails { IsErr result }
         ensures refused { ErrorCountRises (⟦<ReaderSource<R> as Source>⟧.faults self.old)
             (⟦<ReaderSource<R> as Source>⟧.faults self.new) }
         ensures unread_unknown { IsNone (⟦<ReaderSource<R> as Source>⟧.ahead self.new) }
+        ensures left { ⟦<ReaderSource<R> as Source>⟧.left self.new
+            ≡ ⟦<ReaderSource<R> as Source>⟧.left self.old }
     {
         // Marking fails in the same way.
         self.mark()
@@ -296,6 +308,7 @@ impl<F: Read + Seek> FileSource<F> {
     fn lose_mark(&mut self) -> DeviceFault
         ensures unmarked { self.new.marked ≡ None }
         ensures raised { self.new.reader.faults.0 ≡ min (self.old.reader.faults.0 + 1) (2 ^ 64 - 1) }
+        ensures left { self.new.reader.left ≡ self.old.reader.left }
     {
         self.marked = None;
         self.reader.faults.raise()
@@ -311,7 +324,15 @@ impl<F: Read + Seek> Source for FileSource<F> {
 
     ghost faults = { λ s. ⟦<ReaderSource<F> as Source>⟧.faults s.reader };
 
-    fn read(&mut self, buf: &mut [u8]) -> Result<usize, DeviceFault> {
+    // After an error, as many bytes can still be read as before.
+    fn read(&mut self, buf: &mut [u8]) -> Result<usize, DeviceFault>
+        ensures read { HasRead ⟦<FileSource<F> as Source>⟧.ahead ⟦<FileSource<F> as Source>⟧.behind
+            ⟦<FileSource<F> as Source>⟧.since ⟦<FileSource<F> as Source>⟧.is_marked
+            ⟦<FileSource<F> as Source>⟧.left ⟦<FileSource<F> as Source>⟧.faults
+            self.old self.new buf.new result }
+        ensures left { OnErr result
+            (⟦<FileSource<F> as Source>⟧.left self.new ≡ ⟦<FileSource<F> as Source>⟧.left self.old) }
+    {
         self.reader.read(buf)
     }
 }
@@ -319,7 +340,14 @@ impl<F: Read + Seek> Source for FileSource<F> {
 impl<F: Read + Seek> Rereader for FileSource<F> {
     ghost steady = { λ _. ⊥ };
 
-    fn mark(&mut self) -> Result<(), DeviceFault> {
+    // As many bytes can be read as before, also after an error.
+    fn mark(&mut self) -> Result<(), DeviceFault>
+        ensures mark { HasMarked ⟦<FileSource<F> as Rereader>⟧.steady ⟦<FileSource<F> as Source>⟧.ahead
+            ⟦<FileSource<F> as Source>⟧.behind ⟦<FileSource<F> as Source>⟧.since
+            ⟦<FileSource<F> as Source>⟧.is_marked ⟦<FileSource<F> as Source>⟧.faults
+            self.old self.new result }
+        ensures left { ⟦<FileSource<F> as Source>⟧.left self.new ≡ ⟦<FileSource<F> as Source>⟧.left self.old }
+    {
         match self.reader.reader.stream_position() {
             Ok(place) => {
                 self.marked = Some(place);
@@ -330,8 +358,13 @@ impl<F: Read + Seek> Rereader for FileSource<F> {
     }
 
     // Without a mark, the position of the file is unchanged. It is also an error if seeking succeeds but ends
-    // at a position other than the marked one.
-    fn back(&mut self) -> Result<(), DeviceFault> {
+    // at a position other than the marked one. As many bytes can be read as before, also after an error.
+    fn back(&mut self) -> Result<(), DeviceFault>
+        ensures back { HasGoneBack ⟦<FileSource<F> as Source>⟧.ahead ⟦<FileSource<F> as Source>⟧.behind
+            ⟦<FileSource<F> as Source>⟧.since ⟦<FileSource<F> as Source>⟧.is_marked
+            ⟦<FileSource<F> as Source>⟧.faults self.old self.new result }
+        ensures left { ⟦<FileSource<F> as Source>⟧.left self.new ≡ ⟦<FileSource<F> as Source>⟧.left self.old }
+    {
         if let Some(marked) = self.marked {
             if let Ok(place) = self.reader.reader.seek(SeekFrom::Start(marked)) {
                 if place == marked {

@@ -1,3 +1,4 @@
+-- Proves the goal of `minisign_open_sealed_key` that the prover leaves open.
 use Rattle.std.proofs.Common.{Err, inl, inr}
 use Rattle.minisign_base.specs.Fault.{Named}
 use Rattle.minisign_base.specs.declared.faults.NamedFault.TheVariants.{OutOfMemory}

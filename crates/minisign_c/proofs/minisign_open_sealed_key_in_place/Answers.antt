@@ -1,3 +1,4 @@
+-- Proves the goal of `minisign_open_sealed_key_in_place` that the prover leaves open.
 use Rattle.std.proofs.Common.{length}
 use Rattle.minisign_external.specs.SecretKeys.{opened_in_place}
 use Rattle.minisign_c.proofs.OpeningErrors.{opening_refusal}

@@ -1,3 +1,4 @@
+-- Proves the goal of `minisign_secret_key_text_with_any_limits` that the prover leaves open.
 use Rattle.std.proofs.Common.{Option, subst}
 use Rattle.minisign_external.specs.SecretKeys.{passed_password}
 use Rattle.minisign_external.specs.declared.state.Misuse.{Misuse}

@@ -1,10 +1,11 @@
+-- Proves the goals of `minisign_verdict` that the prover leaves open.
 use Rattle.std.proofs.Common.{◌≡◌, ◌∙◌, ℕ, List, Bool, Result, Ok, Err, ap, inl, inr, refl}
 use Rattle.minisign_base.specs.Fault.{Fault}
 use Rattle.minisign.specs.Acceptance.{Verifier}
 use Rattle.minisign.specs.Headline.{verdict}
 use Rattle.minisign_external.specs.Numbers.{fault_number, refusal_number}
 use Rattle.minisign_external.specs.Questions.{verdict_under}
-use Rattle.minisign_external.specs.States.{GivesNumber, IsFaultOf, given_verdict, verdict_number}
+use Rattle.minisign_external.specs.States.{GivesNumber, IsFaultOf, without_trusted_comment, verdict_number}
 use Rattle.minisign_external.specs.declared.state.Refusal.{Refusal}
 use Rattle.minisign_external.specs.declared.state.Refusal.TheVariants.{Refused, WrongUse}
 use Rattle.minisign_c.proofs.Positive.{positive}
@@ -20,12 +21,12 @@ given_number accepts pk_text sig_text message legacy (Refused e) n is refuses =
     inr (rw is (positive e), e, is, refuses)
 
 -- If the verdict is an error, the number of the verdict is the number of this error.
-refused_number : (v : Result (List ℕ) Fault) (r : Refusal Fault) → Err r ≡ given_verdict v
+refused_number : (v : Result (List ℕ) Fault) (r : Refusal Fault) → Err r ≡ without_trusted_comment v
     → refusal_number fault_number r ≡ verdict_number v
 refused_number (Ok t) r h = cc h
 refused_number (Err e) r h = let same : r ≡ Refused e = cc h in ap (refusal_number fault_number) same
 
-success_number : (v : Result (List ℕ) Fault) → Ok tt ≡ given_verdict v → 0 ≡ verdict_number v
+success_number : (v : Result (List ℕ) Fault) → Ok tt ≡ without_trusted_comment v → 0 ≡ verdict_number v
 success_number (Ok t) h = refl
 success_number (Err e) h = cc h
 

@@ -4,7 +4,7 @@
 ghost use Rattle.std.specs.Prelude.{◌≡◌, ◌<◌, ◌==◌, Some, drop, length, take, true};
 ghost use Rattle.std.specs.Option.{unwrap_or};
 ghost use Rattle.minisign_install.specs.Installations.{HoldsState, IsWritten, first_key, record_due};
-ghost use Rattle.minisign_install.specs.Installations.{written_if};
+ghost use Rattle.minisign_install.specs.Installations.{IsWrittenIf};
 ghost use Rattle.minisign_install.specs.Installations.{IsNewRecord, about, question_due, question_of};
 ghost use Rattle.minisign_install.specs.Step.{CheckComment, CheckRecord};
 ghost use Rattle.minisign_install.specs.Step.{State, key_of, new_key, new_record, new_version, signed_digest};
@@ -107,7 +107,7 @@ impl Progress {
     // Writes the new record, if writing it is due.
     pub(crate) fn record_text(&self, to: &mut [u8]) -> usize
         ensures written { (s : State) → HoldsState self.now s
-            → written_if (record_due s) result to.old to.new }
+            → IsWrittenIf (record_due s) result to.old to.new }
         ensures reads_back { (s : State) → HoldsState self.now s → 0 < result
             → IsNewRecord s (take result to.new) }
         ensures rest_unchanged { drop result to.new ≡ drop result to.old }

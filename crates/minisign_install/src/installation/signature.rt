@@ -12,7 +12,8 @@ ghost use Rattle.minisign_install.specs.Decisions.{judge_keys};
 ghost use Rattle.minisign_install.specs.Faults.{Library, Named, NotUtf8, is_installer_fault};
 ghost use Rattle.minisign_install.specs.Installations.{HoldsState, RunLeadsTo, SignatureLeads};
 ghost use Rattle.minisign_install.specs.Installations.{SignatureSteps, given};
-ghost use Rattle.minisign_install.specs.Installations.{IsJudgedAs, IsReadAs, judge_form, options_of, plain};
+ghost use Rattle.minisign_install.specs.Installations.{IsJudgedAs, IsReadAs, judge_form, options_of};
+ghost use Rattle.minisign_install.specs.Installations.{without_length};
 ghost use Rattle.minisign_install.specs.Installations.{IsOwnNumber, first_key, judged_text};
 ghost use Rattle.minisign_external.specs.declared.public_keys.PublicKeyValue.{PublicKeyValue};
 ghost use Rattle.minisign_install.specs.Step.{State, after_signature, reject};
@@ -97,7 +98,7 @@ impl Progress {
     // Rejects the run with this error. No message is written.
     fn refuse(&mut self, fault: PError) -> Result<usize, Refusal<InstallFault>>
         ensures next_state { (s : State) → HoldsState self.old s
-            → RunLeadsTo s (reject (Library fault) s) (plain result) self.new }
+            → RunLeadsTo s (reject (Library fault) s) (without_length result) self.new }
         ensures is_zero { IfOk result (λ n. n ≡ 0) }
         ensures refused { IfErr result (λ r. r ≡ Refused (Library fault)) }
     {

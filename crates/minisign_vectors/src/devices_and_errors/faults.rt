@@ -1,5 +1,5 @@
-//! Tests of the texts of errors, and of the conversions from errors of other crates.
-//! `tests/rows/named_errors.txt` has every named error with its number, its kind and its text.
+//! Tests of the texts of errors, and of the conversions from errors of other crates. The test cases with the
+//! number, the kind and the text of every named error are in `tests/rows/named_errors.txt`.
 
 use crate::display::displays_as;
 use crate::tables::assert_row;
@@ -22,8 +22,7 @@ use std::{fmt, io};
 const ENCRYPTED: &str =
     "Cannot sign with an encrypted secret key. The key must be decrypted first. Options include: SecretKeyBox::into_secret_key(password), SecretKey::from_box(box, password), SecretKey::from_file(path, password), or use KeyPair::generate_unencrypted_keypair() for passwordless keys.";
 
-// Errors and their texts: a constant text, the longest text, and texts with one and with two key
-// IDs.
+// Errors and their texts: a constant text, the longest text, a text with one key ID, and a text with two.
 const ERROR_TEXTS: [(NamedFault, &str); 4] = [
     (OutOfMemory, "out of memory"),
     (EncryptedKeyRefused, ENCRYPTED),
@@ -46,7 +45,7 @@ fn error_texts() -> &'static [(NamedFault, &'static str)] {
 }
 
 // Returns true if the error has this text, without allocating.
-fn is_text(fault: &PError, text: &str) -> bool {
+fn writes_text(fault: &PError, text: &str) -> bool {
     let mut room = [0u8; TEXT_ROOM];
     fault.text(&mut room) == text.as_bytes()
 }
@@ -54,11 +53,11 @@ fn is_text(fault: &PError, text: &str) -> bool {
 // Returns true if a named error has this text, and an error made from it has the same text and the same name.
 fn displays_text(alloc: Global, row: &(NamedFault, &str)) -> bool {
     let (named, text) = *row;
-    let named_says = displays_as(alloc, &named, text);
+    let name_displays_text = displays_as(alloc, &named, text);
     let fault = PError::from(named);
-    let says_text = displays_as(alloc, &fault, text);
-    let has_text = is_text(&fault, text);
-    named_says && says_text && has_text && fault.named() == Some(named)
+    let error_displays_text = displays_as(alloc, &fault, text);
+    let writes_same_text = writes_text(&fault, text);
+    name_displays_text && error_displays_text && writes_same_text && fault.named() == Some(named)
 }
 
 #[test]
@@ -75,11 +74,11 @@ fn has_name(fault: PError, named: NamedFault) -> bool {
 #[test]
 fn errors_of_std_convert_to_named_errors(rt: HostRuntime) {
     let device = io::Error::from(io::ErrorKind::Other);
-    let refused = has_name(PError::from(AllocError), OutOfMemory);
-    let given_back = has_name(PError::from(AllocFailed { value: 0u8 }), OutOfMemory);
-    let failed = has_name(PError::from(device), InputOrOutputFailed);
-    let unformatted = has_name(PError::from(fmt::Error), FormattingFailed);
-    assert!(rt; refused && given_back && failed && unformatted);
+    let from_alloc_error = has_name(PError::from(AllocError), OutOfMemory);
+    let from_alloc_failed = has_name(PError::from(AllocFailed { value: 0u8 }), OutOfMemory);
+    let from_io_error = has_name(PError::from(device), InputOrOutputFailed);
+    let from_fmt_error = has_name(PError::from(fmt::Error), FormattingFailed);
+    assert!(rt; from_alloc_error && from_alloc_failed && from_io_error && from_fmt_error);
     assert!(rt; conversion_gives_invalid_utf8(rt.alloc()));
 }
 
@@ -105,22 +104,22 @@ fn errors_of_kdf_and_base64_convert_to_named_errors(rt: HostRuntime) {
     let memory = has_name(PError::from(KdfError::OutOfMemory), OutOfMemory);
     assert!(rt; params && len && len_of_key && memory);
     let padding = DecodeAllocError::DecodeError(DecodeError::InvalidPadding);
-    let no_base64 = has_name(PError::from(padding), SecretKeyNotBase64);
+    let is_not_base64 = has_name(PError::from(padding), SecretKeyNotBase64);
     let memory = has_name(PError::from(DecodeAllocError::OutOfMemory), OutOfMemory);
-    assert!(rt; no_base64 && memory);
+    assert!(rt; is_not_base64 && memory);
 }
 
-// Returns true if the error has the text of `ReadingFailed` but not its name.
+// Returns true if the error has the text and the kind of `ReadingFailed` but is not a named error.
 fn has_text_without_name(alloc: Global, fault: PError) -> bool {
-    let worded = displays_as(alloc, &fault, "reading failed");
-    let check_holds = *fault.kind() == Io && fault.named() == None;
+    let has_text = displays_as(alloc, &fault, "reading failed");
+    let is_unnamed_io = *fault.kind() == Io && fault.named() == None;
     let answer: Result<(), PError> = Err(fault);
     let named = matches_outcome(&answer, Refused(ReadingFailed));
-    worded && check_holds && !named
+    has_text && is_unnamed_io && !named
 }
 
-// Returns true if an error that a caller makes with the text of `ReadingFailed` has only this text.
-fn custom_error_has_only_text(alloc: Global) -> bool {
+// Returns true if an error that a caller makes with the text of `ReadingFailed` is not a named error.
+fn custom_error_has_no_name(alloc: Global) -> bool {
     let Ok(text) = String::from_str(alloc, "reading failed") else {
         return false;
     };
@@ -130,6 +129,6 @@ fn custom_error_has_only_text(alloc: Global) -> bool {
 // An error is not a named error just because it has the text of one.
 #[test]
 fn errors_of_callers_have_no_name(rt: HostRuntime) {
-    assert!(rt; custom_error_has_only_text(rt.alloc()));
+    assert!(rt; custom_error_has_no_name(rt.alloc()));
     assert!(rt; has_text_without_name(rt.alloc(), PError::fixed(Io, "reading failed")));
 }

@@ -13,7 +13,7 @@ use minisign_kdf::KdfError::{self, InvalidOutputLen, OutOfMemory};
 use minisign_kdf::{Params, Rows, mix_kept, scrypt_keeping};
 use std::alloc::Global;
 
-// A part for r = 1.
+// The input B of scryptROMix for r = 1, called a part here.
 const BLOCK: [u8; 128] = [
     0xf7, 0xce, 0x0b, 0x65, 0x3d, 0x2d, 0x72, 0xa4, 0x10, 0x8c, 0xf5, 0xab, 0xe9, 0x12, 0xff, 0xdd,
     0x77, 0x76, 0x16, 0xdb, 0xbb, 0x27, 0xa7, 0x0e, 0x82, 0x04, 0xf3, 0xae, 0x2d, 0x0f, 0x6f, 0xad,
@@ -34,7 +34,7 @@ const ROM_MIXED: &str =
     "79ccc193629debca047f0b70604bf6b62ce3dd4a9626e355fafc6198e6ea2b46d58413673b99b029d665c357601fb426a0b2f4bba200ee9f0a43d19b571a9c71ef1142e65d5a266fddca832ce59faa7cac0b9cf1be2bffca300d01ee387619c4ae12fd4438f203a0e4e1c47ec314861f4e9087cb33396a6873e8f9d2539a4b8e";
 
 // The key of an empty password with the default cost.
-const OF_USUAL_COST: &str =
+const KEY_WITH_DEFAULT_COST: &str =
     "2c804bf5d0ccb28051f20fb0b99bf7e9a45a67496650536018dd8839d9370748f1ac548a44dde14ef07f306c5fc7fe091054c6374d73d1a4f917a0fbcd8b88b8";
 
 // The password, the salt, the parameters, k, the number of kept rows, and the key.
@@ -60,8 +60,8 @@ const KEYS: [Key; 12] = [
     ("", "", (4, 1, 1), 17, 1, KEY_OF_EMPTY_PASSWORD),
     ("", "", (4, 1, 1), u64::MAX, 1, KEY_OF_EMPTY_PASSWORD),
     ("password", "NaCl", (10, 8, 16), 100, 11, KEY_OF_PASSWORD),
-    ("", "", (15, 8, 1), 3, 10923, OF_USUAL_COST),
-    ("", "", (15, 8, 1), 7, 4682, OF_USUAL_COST),
+    ("", "", (15, 8, 1), 3, 10923, KEY_WITH_DEFAULT_COST),
+    ("", "", (15, 8, 1), 7, 4682, KEY_WITH_DEFAULT_COST),
 ];
 
 // Hides the table from proofs, which would otherwise unfold all of it.
@@ -138,7 +138,7 @@ fn are_first_rows(alloc: Global, words: &[u32], count: u64) -> bool {
     count == 2 && bytes_of(first) == BLOCK && shows(alloc, &bytes_of(second), MIXED)
 }
 
-// The base-2 logarithm of N, k, and the number of kept rows. 0 means that the rows do not fit into memory.
+// log2(N), k, and the number of kept rows. A number of 0 means that the rows do not fit into memory.
 type Filled = (u8, u64, u64);
 
 // Rows that do not fit into memory are rejected before any mixing. If only one row is kept, nothing
@@ -167,7 +167,7 @@ fn fills_rows_at_least_and_greatest_cost(rt: HostRuntime) {
     }
 }
 
-// The k, the length of the output, and the error.
+// k, the length of the output, and the error.
 type Refused = (u64, usize, KdfError);
 
 // An output length that scrypt does not allow is rejected for every k, before rows that do not fit

@@ -1,6 +1,6 @@
 //! Tests of HMAC (RFC 4231, sections 4.2 to 4.8), of PBKDF2 (RFC 7914, section 11, the vector with
-//! one iteration), and of the parameters that scrypt accepts. The key of 100 bytes is from Python's
-//! hashlib (OpenSSL).
+//! one iteration), and of the parameters that scrypt accepts. `tests/rows/deriving.py` has the
+//! parameters that scrypt rejects, and the derived keys.
 
 use crate::display::shows;
 use crate::tables::assert_row;
@@ -12,12 +12,12 @@ const ASCENDING: [u8; 25] = [
     1, 2, 3, 4, 5, 6, 7, 8, 9, 10, 11, 12, 13, 14, 15, 16, 17, 18, 19, 20, 21, 22, 23, 24, 25,
 ];
 
-const LARGER_KEY: &[u8] = b"Test Using Larger Than Block-Size Key - Hash Key First";
+const HASHED_FIRST_TEXT: &[u8] = b"Test Using Larger Than Block-Size Key - Hash Key First";
 
-const LARGER_TEXT: &[u8] =
+const LARGER_DATA_TEXT: &[u8] =
     b"This is a test using a larger than block-size key and a larger than block-size data. The key needs to be hashed before being used by the HMAC algorithm.";
 
-const OF_JEFE: &str = "5bdcc146bf60754e6a042426089575c75a003f089d2739839dec58b964ec3843";
+const CODE_OF_JEFE: &str = "5bdcc146bf60754e6a042426089575c75a003f089d2739839dec58b964ec3843";
 
 // The section of RFC 4231, the key, the parts of the text, and the published bytes of the
 // authentication code.
@@ -28,8 +28,8 @@ type Code = (
     &'static str,
 );
 
-// The text of section 4.3 also comes in two and in four parts. Section 4.6 has only the first 16
-// bytes of the code.
+// The text of section 4.3 is also passed in two and in four parts. For section 4.6, the RFC publishes
+// only the first 16 bytes of the code.
 const CODES: [Code; 9] = [
     (
         "4.2",
@@ -37,18 +37,23 @@ const CODES: [Code; 9] = [
         &[b"Hi There"],
         "b0344c61d8db38535ca8afceaf0bf12b881dc200c9833da726e9376c2e32cff7",
     ),
-    ("4.3", b"Jefe", &[b"what do ya want for nothing?"], OF_JEFE),
+    (
+        "4.3",
+        b"Jefe",
+        &[b"what do ya want for nothing?"],
+        CODE_OF_JEFE,
+    ),
     (
         "4.3 in two parts",
         b"Jefe",
         &[b"what do ya want ", b"for nothing?"],
-        OF_JEFE,
+        CODE_OF_JEFE,
     ),
     (
         "4.3 in four parts",
         b"Jefe",
         &[b"", b"what", b"", b" do ya want for nothing?"],
-        OF_JEFE,
+        CODE_OF_JEFE,
     ),
     (
         "4.4",
@@ -71,13 +76,13 @@ const CODES: [Code; 9] = [
     (
         "4.7",
         &[0xaa; 131],
-        &[LARGER_KEY],
+        &[HASHED_FIRST_TEXT],
         "60e431591ee0b67f0d8a26aacbf5b77f8e0bc6213728c5140546040f0ee37f54",
     ),
     (
         "4.8",
         &[0xaa; 131],
-        &[LARGER_TEXT],
+        &[LARGER_DATA_TEXT],
         "9b09ffa71b942fcb27635fbcd5b0e944bfdc63644f0713938a7f51535c3a35e2",
     ),
 ];
@@ -102,14 +107,14 @@ fn hmac_matches_rfc_4231(rt: HostRuntime) {
 }
 
 // RFC 7914, section 11, the vector with one iteration.
-const OF_PASSWD: &str =
+const KEY_OF_PASSWD: &str =
     "55ac046e56e3089fec1691c22544b605f94185216dde0465e68b9d57c20dacbc49ca9cccf179b645991664b39d77ef317c71b845b1e30bd509112041d3a19783";
 
 #[test]
 fn pbkdf2_matches_rfc_7914(rt: HostRuntime) {
     let mut key = [0u8; 64];
     pbkdf2_once(b"passwd", b"salt", &mut key);
-    assert!(rt; shows(rt.alloc(), &key, OF_PASSWD));
+    assert!(rt; shows(rt.alloc(), &key, KEY_OF_PASSWD));
 }
 
 // Returns true if the parameters are accepted and returned unchanged.
@@ -120,7 +125,8 @@ fn is_accepted(n_log2: u8, r: u32, p: u32) -> bool {
     }
 }
 
-// The base-2 logarithm of N, r and p.
+// log2(N), r and p. Most rows are at a limit: the next larger value is among the rejected parameters in
+// `tests/rows/deriving.py`.
 const PARAMETERS: [(u8, u32, u32); 11] = [
     (1, 1, 1),
     (15, 1, 1),
@@ -141,7 +147,7 @@ fn parameters() -> &'static [(u8, u32, u32)] {
 }
 
 #[test]
-fn accepts_exactly_the_allowed_parameters(rt: HostRuntime) {
+fn accepts_allowed_parameters(rt: HostRuntime) {
     for row in parameters() {
         assert_row(&rt, is_accepted(row.0, row.1, row.2), row);
     }

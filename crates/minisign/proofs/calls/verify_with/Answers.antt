@@ -1,7 +1,7 @@
 -- Proves the goals of `verify_with` that the prover leaves open.
 use Rattle.minisign.proofs.Verdicts.{text_refused, verdict_of_error, verdict_of_success}
 use Rattle.minisign.proofs.ReadTexts.{read_value}
-use Rattle.minisign.proofs.Beginnings.{err_is}
+use Rattle.minisign.proofs.ErrorsAndPrefixes.{err_is}
 use Rattle.minisign.proofs.calls.verify_with.Goals as goal
 
 pub returns-in_err-pk-clause-headline : goal.returns-in_err-pk-clause-headline

@@ -3,7 +3,7 @@ use Rattle.std.proofs.Common.{[], ◌∷◌, inl, inr, refl, sym, ◌∙◌, tru
 use Rattle.minisign.proofs.Common.{bytes_eq-Decides, rereader_call, sink_call, no_sink}
 use Rattle.minisign.specs.Verifying.{Compare, Copy, Devices, Flush, Return}
 use Rattle.minisign.proofs.VerifyingStages.{OneEnds, last_step, next_step}
-use Rattle.minisign.proofs.Beginnings.{err_is}
+use Rattle.minisign.proofs.ErrorsAndPrefixes.{err_is}
 use Rattle.minisign.proofs.copying.copy_again.Goals as goal
 
 pub returns-in_err-second : goal.returns-in_err-second

@@ -2,7 +2,7 @@
 use Rattle.std.proofs.Common.{[], ◌∷◌, refl}
 use Rattle.minisign.proofs.Common.{rereader_call, sink_call, no_sink}
 use Rattle.minisign.specs.Verifying.{Flush, Put}
-use Rattle.minisign.proofs.VerifyingStages.{OneEnds, kept_steps, last_step, next_step}
+use Rattle.minisign.proofs.VerifyingStages.{OneEnds, copying_from_memory, last_step, next_step}
 use Rattle.minisign.proofs.copying.copy_out.Goals as goal
 
 pub returns-in_ok-put_bytes-in-Message : goal.returns-in_ok-put_bytes-in-Message
@@ -10,7 +10,7 @@ returns-in_ok-put_bytes-in-Message g c =
     let reader = rereader_call g.R.Source g.R.Rereader.steady c.args.data_reader.now c.args.data_reader.now in
     let out = sink_call g.O.Sink c.args.out.now c.flush.new.out in
     let bytes = c.in-Message.bytes.items in
-    let stages = kept_steps _ _ _ _ c.if-not-output.false c.in-Message.is in
+    let stages = copying_from_memory _ _ _ _ c.if-not-output.false c.in-Message.is in
     let put = rw c.deref.ensures.value at c.in_ok-put_bytes-in-Message.ensures in (
       bytes,
       rw stages at (next_step (OneEnds reader no_sink out) (Put bytes) (Flush ∷ []) _

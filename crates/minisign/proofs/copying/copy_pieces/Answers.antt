@@ -1,8 +1,8 @@
 -- Proves the goals of `copy_pieces` that the prover leaves open.
 use Rattle.std.proofs.Common.{◌∙◌, append_assoc, inr, rules}
 use Rattle.minisign.proofs.Common.{Appends-trans, Consumes-trans, AppendsPrefix-after}
-use Rattle.minisign.proofs.Beginnings.{consumed, passed_up}
-use Rattle.minisign.proofs.Copies.{front_of_ahead, front_of_all, known_bytes_append, known_bytes_kept}
+use Rattle.minisign.proofs.ErrorsAndPrefixes.{consumed, passed_up}
+use Rattle.minisign.proofs.Copies.{prefix_of_ahead, prefix_of_all, known_bytes_append, known_bytes_kept}
 use Rattle.minisign.proofs.Copies.{keeps_same}
 use Rattle.minisign.proofs.copying.copy_pieces.Goals as goal
 
@@ -53,7 +53,7 @@ returns-in_err-put_bytes-in-Ok-clause-refused g c =
     let more = Consumes-trans _ _ _ _ _ bytes_read c.in-Ok.ensures.bytes in
     let (((fault, rose), put_front), unflushed) = c.in_err-put_bytes-in-Ok.ensures in
     let put = AppendsPrefix-after _ _ _ _ _ taken put_front in
-    let (message, ahead, front) = front_of_ahead _ _ _ _ _ more put in
+    let (message, ahead, front) = prefix_of_ahead _ _ _ _ _ more put in
     passed_up _ _ _ c.from_residual.ensures.1 (
       message,
       record {
@@ -77,8 +77,8 @@ returns-in_err-put_bytes-in-Ok-clause-refused g c =
 pub returns-in-Err-clause-refused : goal.returns-in-Err-clause-refused
 returns-in-Err-clause-refused g c =
     let (done, bytes_read, taken, fed, since) = c.pieces.invariant.bytes_read in
-    let put = front_of_all _ _ _ _ taken (keeps_same _) in
-    let (message, ahead, front) = front_of_ahead _ _ _ _ _ bytes_read put in (
+    let put = prefix_of_all _ _ _ _ taken (keeps_same _) in
+    let (message, ahead, front) = prefix_of_ahead _ _ _ _ _ bytes_read put in (
       message,
       record {
         read = tt;

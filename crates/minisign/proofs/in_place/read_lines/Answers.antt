@@ -5,7 +5,7 @@ use Rattle.minisign.proofs.Common.{trim, drop-append_seam}
 use Rattle.minisign.specs.Texts.{is_base64, base64_bytes, untrusted_comment_label}
 use Rattle.minisign.specs.SignatureText.{trusted_comment_label}
 use Rattle.minisign.proofs.SignatureTexts.{long_enough}
-use Rattle.minisign.proofs.Beginnings.{err_is}
+use Rattle.minisign.proofs.ErrorsAndPrefixes.{err_is}
 use Rattle.minisign.proofs.SignatureTexts as texts
 use Rattle.minisign.proofs.in_place.read_lines.Goals as goal
 

@@ -1,16 +1,15 @@
 -- Proves the goals of `ask_and_seal` that the prover leaves open.
 use Rattle.std.proofs.Common.{Result, Ok, Err, IfOk, OnOk, string_bytes}
 use Rattle.minisign.proofs.Common.{IfErr-weaker, prompt_call, second_ended, stopped_first}
-use Rattle.minisign.proofs.Beginnings.{passed_up}
+use Rattle.minisign.proofs.ErrorsAndPrefixes.{passed_up}
 use Rattle.minisign.specs.Generation.{choosing_steps, sealing_steps}
 use Rattle.minisign.proofs.keypair.ask_and_seal.Goals as goal
 
--- A statement about a returned value follows from a fact that holds on success and a clause about the
--- value.
-both_hold : {T E : Type 0} (r : Result T E) (A : Type 0) (P Q : T → Type 0) → ((t : T) → A → P t → Q t)
+-- If f derives Q from A and P, A holds on success, and P holds for a returned value, then Q holds for it.
+value_from_both : {T E : Type 0} (r : Result T E) (A : Type 0) (P Q : T → Type 0) → ((t : T) → A → P t → Q t)
     → OnOk r A → IfOk r P → IfOk r Q
-both_hold (Ok t) A P Q f a p = f t a p
-both_hold (Err e) A P Q f a p = tt
+value_from_both (Ok t) A P Q f a p = f t a p
+value_from_both (Err e) A P Q f a p = tt
 
 pub returns-in_err-password-clause-refused : goal.returns-in_err-password-clause-refused
 returns-in_err-password-clause-refused g c =
@@ -27,7 +26,7 @@ pub returns-clause-typed : goal.returns-clause-typed
 returns-clause-typed g c =
     let (first, second, typed, again, chosen) = c.in_ok-password.ensures.chosen in
     let p = prompt_call g.R.Source g.W.Sink c.args.prompt.now c.seal_with_reports.new.prompt in
-    both_hold c.seal_with_reports.result _ _ _ (λ pair said sealed. (
+    value_from_both c.seal_with_reports.result _ _ _ (λ pair said sealed. (
       string_bytes c.in_ok-password.password,
       (
         first,

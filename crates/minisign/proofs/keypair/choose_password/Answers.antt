@@ -3,31 +3,33 @@ use Rattle.std.proofs.Common.{Ok, Err, Bool, true, false, not, ◌≡◌, ◌∷
 use Rattle.std.proofs.Common.{inr, refl, ℕ, List, None, Some, bytes_eq}
 use Rattle.minisign.proofs.Common.{bytes_eq-Decides, prompt_call, second_ended, stopped_first, typed_is, Test}
 use Rattle.minisign.proofs.Common.{asking_steps, typed_password, Fault, Named, PasswordsDiffer}
-use Rattle.minisign.proofs.Beginnings.{passed_up}
+use Rattle.minisign.proofs.ErrorsAndPrefixes.{passed_up}
 use Rattle.minisign.specs.Generation.{password_difference, purpose_line, second_question}
 use Rattle.minisign.specs.Sealing.{asking_text}
 use Rattle.minisign.proofs.keypair.choose_password.Goals as goal
 
 -- If c is the negation of b, then b is the negation of c.
-unturned : (b c : Bool) → c ≡ not b → b ≡ not c
-unturned true true h = absurd (cc)
-unturned true false h = refl
-unturned false true h = refl
-unturned false false h = absurd (cc)
+negation_symmetric : (b c : Bool) → c ≡ not b → b ≡ not c
+negation_symmetric true true h = absurd (cc)
+negation_symmetric true false h = refl
+negation_symmetric false true h = refl
+negation_symmetric false false h = absurd (cc)
 
+-- If two typed passwords differ, the check of the passwords fails with PasswordsDiffer.
 two_differ : (first second password again : List ℕ) (e : Fault) → typed_password first ≡ password
     → typed_password second ≡ again
     → true ≡ not (bytes_eq password again) → e ≡ Named PasswordsDiffer
     → password_difference (typed_password first) (typed_password second) ≡ Some e
 two_differ _ _ _ _ e one two differ is =
-    let test = unturned _ _ differ in rw (one, two, test, is) refl
+    let test = negation_symmetric _ _ differ in rw (one, two, test, is) refl
 
+-- If two typed passwords are equal, the check of the passwords succeeds.
 two_agree : (first second password again : List ℕ) → typed_password first ≡ password
     → typed_password second ≡ again
     → false ≡ not (bytes_eq password again) → password_difference (typed_password first)
     (typed_password second) ≡ None
 two_agree _ _ _ _ one two same =
-    let test = unturned _ _ same in rw (one, two, test) refl
+    let test = negation_symmetric _ _ same in rw (one, two, test) refl
 
 pub returns-in_err-password-clause-refused : goal.returns-in_err-password-clause-refused
 unfolding purpose_line asking_text
@@ -97,7 +99,7 @@ returns-clause-chosen g c =
     let (first, answered, asked) = c.in_ok-password.ensures.asked in
     let (second, answered_again, asked_again) = c.in_ok-again.ensures.asked in
     let same = sym ((bytes_eq-Decides (string_bytes c.in_ok-password.password) _).0
-    (unturned _ false c.if-ne.ensures)) in
+    (negation_symmetric _ false c.if-ne.ensures)) in
     let end = c.get_password-2.new.prompt in
     let both = prompt_call g.R.Source g.W.Sink c.say.new.self end in
     let p = prompt_call g.R.Source g.W.Sink c.get_password.new.prompt end in

@@ -1,6 +1,6 @@
 -- Proves the goal of `make_sealed_pair` that the prover leaves open.
 use Rattle.std.proofs.Common.{◌∙◌}
-use Rattle.minisign.proofs.Beginnings.{passed_up}
+use Rattle.minisign.proofs.ErrorsAndPrefixes.{passed_up}
 use Rattle.minisign.proofs.GeneratedKeys.{only_memory}
 use Rattle.minisign.proofs.keypair.make_sealed_pair.Goals as goal
 

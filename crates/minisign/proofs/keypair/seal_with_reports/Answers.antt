@@ -1,6 +1,6 @@
 -- Proves the goals of `seal_with_reports` that the prover leaves open.
 use Rattle.std.proofs.Common.{inl, inr, refl}
-use Rattle.minisign.proofs.Beginnings.{passed_up}
+use Rattle.minisign.proofs.ErrorsAndPrefixes.{passed_up}
 use Rattle.minisign.specs.Generation.{sealing_text}
 use Rattle.minisign.specs.Sealing.{done_text}
 use Rattle.minisign.proofs.keypair.seal_with_reports.Goals as goal

@@ -14,7 +14,6 @@ returns c =
     let trusted = c.in_ok-from_str-2.ensures.ok in
     inl ((λ i. Ok (record {
       signature = parts.signature;
-      comments =
-          Some (record { untrusted = untrusted i; trusted = trusted i; signature = signed i });
+      comments = Some (record { untrusted = untrusted i; trusted = trusted i; signature = signed i });
     }))
     ∙ sym (ap (map_ok box_of) c.in_ok-parts.ensures.read))

@@ -2,7 +2,7 @@
 use Rattle.std.proofs.Common.{◌∙◌, ap, sym}
 use Rattle.minisign.specs.Records.{ReadsSignature, signature_bytes}
 use Rattle.minisign.specs.Texts.{base64_of, Encodes}
-use Rattle.minisign.proofs.Base64Texts.{own_base64}
+use Rattle.minisign.proofs.Base64Texts.{base64_of_bytes}
 use Rattle.minisign.proofs.SignatureTexts.{same_comments, spelled_text, written_text}
 use Rattle.minisign.proofs.signature_box.written.Goals as goal
 
@@ -19,12 +19,12 @@ returns-clause-reads c = λ one algorithm.
     let x = c.args.comments.now in
     let encodes : Encodes ReadsSignature (base64_of (signature_bytes s)) s = record {
       bytes = signature_bytes s;
-      base64 = own_base64 _ _ _ c.in_ok-encoded.ensures.base64
+      base64 = base64_of_bytes _ _ _ c.in_ok-encoded.ensures.base64
           (c.deref.ensures.value ∙ c.in_ok-bytes.ensures.bytes);
       reads = rw c.in_ok-bytes.ensures.bytes at c.in_ok-bytes.ensures.reads_back;
     } in
     let signed =
-    own_base64 _ _ _ c.in_ok-global_sig.ensures.base64
+    base64_of_bytes _ _ _ c.in_ok-global_sig.ensures.base64
     (c.deref-2.ensures.value ∙ ap (λ y. y.signature) c.comments.view_is) in
     rw (sym (returns-clause-text c)) at (written_text s x encodes signed one algorithm)
 

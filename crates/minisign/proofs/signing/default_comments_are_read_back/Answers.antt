@@ -5,8 +5,9 @@ use Rattle.std.proofs.lemmas.Fmt.{decimal_is_IsNumeral}
 use Rattle.std.proofs.lemmas.Str.Parse.{digit_from_value}
 use Rattle.minisign.specs.Signing.{AreChosenReadBack, given_comments, default_trusted_comment}
 use Rattle.minisign.specs.Signing.{default_untrusted_comment}
-use Rattle.minisign.proofs.WrittenLines.{AllGraphic, each_append, graphic_codes, trim_graphic, shown_codes}
-use Rattle.minisign.proofs.WrittenLines.{shown_graphic, shown_one_line}
+use Rattle.minisign.proofs.WrittenLines.{AllGraphic, each_append, graphic_codes, trim_graphic}
+use Rattle.minisign.proofs.WrittenLines.{lacks_controls_codes, lacks_controls_graphic}
+use Rattle.minisign.proofs.WrittenLines.{one_line_without_controls}
 use Rattle.minisign.proofs.signing.default_comments_are_read_back.Goals as goal
 
 graphic_digits : (ds : List ℕ) → AllDigits 10 ds → AllGraphic ds
@@ -24,8 +25,10 @@ defaults_kept : (unix_time : ℕ) → unix_time < 2 ^ 64 → AreChosenReadBack (
 unfolding default_untrusted_comment
 defaults_kept _ small =
     let graphic = graphic_unix_time _ small in
-    let trusted = shown_one_line _ (shown_graphic _ graphic) in
-    let untrusted = shown_one_line default_untrusted_comment (shown_codes default_untrusted_comment refl) in
+    let trusted = one_line_without_controls _ (lacks_controls_graphic _ graphic) in
+    let untrusted =
+    one_line_without_controls default_untrusted_comment
+    (lacks_controls_codes default_untrusted_comment refl) in
     record {
       one_line = record {
         untrusted_one_line = untrusted.no_feed;

@@ -1,7 +1,7 @@
 -- Proves the goal of `sign` that the prover leaves open.
 use Rattle.std.proofs.Common.{◌≡◌, false, inl, inr}
 use Rattle.minisign.specs.Sealing.{is_encrypted}
-use Rattle.minisign.proofs.Beginnings.{passed_up}
+use Rattle.minisign.proofs.ErrorsAndPrefixes.{passed_up}
 use Rattle.minisign.proofs.SignedBoxes.{refused_by_given}
 use Rattle.minisign.proofs.signing.sign.Goals as goal
 

@@ -3,7 +3,7 @@ use Rattle.std.proofs.Common.{bytes_eq, ap, refl, sym, ◌∙◌}
 use Rattle.minisign.specs.Sealing.{no_kdf}
 use Rattle.minisign.proofs.Openings.{sealed_key, unread_key, unsealed_key, untouched, unencrypted_refused}
 use Rattle.minisign.proofs.Openings.{unencrypted_value}
-use Rattle.minisign.proofs.Beginnings.{err_is}
+use Rattle.minisign.proofs.ErrorsAndPrefixes.{err_is}
 use Rattle.minisign.proofs.signing_texts.key_of_text.Goals as goal
 
 pub returns-clause-gives : goal.returns-clause-gives

@@ -1,7 +1,7 @@
 -- Proves the goals of `read_data` that the prover leaves open.
 use Rattle.std.proofs.Common.{[], refl}
 use Rattle.minisign.proofs.Common.{MatchResult-weaker}
-use Rattle.minisign.proofs.Beginnings.{passed_up}
+use Rattle.minisign.proofs.ErrorsAndPrefixes.{passed_up}
 use Rattle.minisign.proofs.VerifyingStages.{mark_stops, read_ends}
 use Rattle.minisign.proofs.verifying.read_data.Goals as goal
 

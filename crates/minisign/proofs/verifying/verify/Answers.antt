@@ -1,8 +1,8 @@
 -- Proves the goals of `verify` that the prover leaves open.
 use Rattle.minisign.proofs.Common.{rereader_call, sink_call, AppendsPrefix-keeps}
 use Rattle.minisign.specs.Acceptance.{options_of}
-use Rattle.minisign.proofs.Beginnings.{on_err_of, passed_up}
-use Rattle.minisign.proofs.Copies.{front_of_all, keeps_same}
+use Rattle.minisign.proofs.ErrorsAndPrefixes.{on_err_of, passed_up}
+use Rattle.minisign.proofs.Copies.{prefix_of_all, keeps_same}
 use Rattle.minisign.proofs.VerifyingStages.{copying_ends, unjudged, unread, unsaid}
 use Rattle.minisign.proofs.VouchedTexts.{judged_exactly, refused_exactly}
 use Rattle.minisign.proofs.verifying.verify.Goals as goal
@@ -88,7 +88,7 @@ returns-clause-refused g c =
 
 pub returns-clause-status_prefix_received : goal.returns-clause-status_prefix_received
 returns-clause-status_prefix_received g c =
-    on_err_of _ _ (front_of_all _ _ (g.W.Sink.taken c.say.new.status) _ c.in_ok-say.ensures.status_received
+    on_err_of _ _ (prefix_of_all _ _ (g.W.Sink.taken c.say.new.status) _ c.in_ok-say.ensures.status_received
     (keeps_same _))
 
 pub returns-clause-headline : goal.returns-clause-headline

@@ -3,7 +3,7 @@ use Rattle.minisign.proofs.Common.{sink_call}
 use Rattle.minisign.proofs.Verdicts.{kept_refusal, text_refused, verdict_without_comment}
 use Rattle.minisign.proofs.VouchedTexts.{copy_vouched, fails_with, succeeds_with}
 use Rattle.minisign.proofs.ReadTexts.{read_value}
-use Rattle.minisign.proofs.Beginnings.{err_is}
+use Rattle.minisign.proofs.ErrorsAndPrefixes.{err_is}
 use Rattle.minisign.proofs.verifying_texts.verify_texts.Goals as goal
 
 pub returns-in_err-pk-clause-headline : goal.returns-in_err-pk-clause-headline

@@ -1,3 +1,4 @@
+-- The loop invariant of `feed`.
 use Rattle.std.proofs.Common.{take}
 use Rattle.minisign_external.specs.Signing.{joined}
 use Rattle.minisign_external.specs.States.{IsFedState, KeepsQuestions}

@@ -1,3 +1,4 @@
+-- Proves the goals of `open_parsed` that the prover leaves open.
 use Rattle.minisign_c.proofs.Refusals.{sealed_refusal, unsealed_refusal}
 use Rattle.minisign_c.proofs.sequences.open_parsed.Goals as goal
 

@@ -1,3 +1,4 @@
+-- Proves the goals of `sign_with` that the prover leaves open.
 use Rattle.std.proofs.Common.{◌≡◌, ◌∙◌, ◌++◌, ◌&&◌, Bool, List, None, ap, arith, inl, inr, refl, subst}
 use Rattle.std.proofs.Common.{true, false, ℕ}
 use Rattle.minisign_external.specs.Signing.{HoldsSignatureFile, IsWritingRefusal, comments_of}

@@ -1,3 +1,4 @@
+-- Proves the goal of `verify_in_sequence` that the prover leaves open.
 use Rattle.std.proofs.Common.{◌≡◌, ◌∙◌, ◌==◌, ℕ, ap, false, rules}
 use Rattle.minisign.specs.KeyTexts.{read_public_key}
 use Rattle.minisign_external.specs.PublicKeys.{read_utf8, value_of}

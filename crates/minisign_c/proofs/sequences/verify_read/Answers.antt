@@ -1,3 +1,4 @@
+-- Proves the goals of `verify_read` that the prover leaves open.
 use Rattle.std.proofs.Common.{◌≡◌, ◌∙◌, ◌<◌, arith, false, length, rules}
 use Rattle.minisign_external.specs.Questions.{verdict_under}
 use Rattle.minisign_external.specs.Signing.{joined}

@@ -9,7 +9,8 @@ pieces-preserved c =
     let rest : List ℕ = c.pieces.rest.now in
     let piece : List ℕ = c.split_at.result.0.now in
     let more : List ℕ = c.split_at.result.1.now in
-    let cut : piece ++ more ≡ rest = rw (c.split_at.ensures.front, c.split_at.ensures.back) (take-append-drop _ rest) in (
+    let cut : piece ++ more ≡ rest =
+    rw (c.split_at.ensures.front, c.split_at.ensures.back) (take-append-drop _ rest) in (
       c.update.ensures.finalized,
       c.update.ensures.length ∙ length,
       (

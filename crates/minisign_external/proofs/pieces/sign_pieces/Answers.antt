@@ -1,3 +1,4 @@
+-- Proves the goal of `sign_pieces` that the prover leaves open.
 use Rattle.std.proofs.Common.{Result, IfOk, Ok, Err, ℕ, List, arith, subst}
 use Rattle.minisign_external.specs.Signing.{HoldsSignatureFile, comments_of}
 use Rattle.std.specs.List.{flat_map}

@@ -1,3 +1,4 @@
+-- Proves the goal of `verify_read` that the prover leaves open.
 use Rattle.std.proofs.Common.{◌∙◌, ◌≡◌, arith, false, length, sym}
 use Rattle.std.specs.List.{flat_map}
 use Rattle.minisign_external.proofs.ResultsOfQuestions.{failed_ask_verdict}

@@ -1,3 +1,4 @@
+-- Proves the goals of `read` that the prover leaves open.
 use Rattle.std.proofs.Common.{◌∙◌}
 use Rattle.minisign.specs.KeyTexts.{read_public_key}
 use Rattle.minisign_external.proofs.Utf8.{no_text, of_text}

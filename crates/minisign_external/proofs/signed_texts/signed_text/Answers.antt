@@ -1,3 +1,4 @@
+-- Proves the goal of `signed_text` that the prover leaves open.
 use Rattle.std.proofs.Common.{◌≡◌, length, arith}
 use Rattle.std.proofs.lemmas.Str.{IsUtf8-string_bytes}
 use Rattle.minisign_external.specs.Signing.{comments_of}

@@ -1,3 +1,4 @@
+-- Proves the goal of `written` that the prover leaves open.
 use Rattle.minisign_external.proofs.signed_texts.written.Goals as goal
 
 pub returns-clause-reads_back : goal.returns-clause-reads_back

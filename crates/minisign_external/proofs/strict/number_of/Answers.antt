@@ -1,3 +1,4 @@
+-- Proves the goal of `number_of` that the prover leaves open.
 use Rattle.std.proofs.Common.{◌≡◌, List, ℕ, ap, arith, take}
 use Rattle.std.proofs.lemmas.List.{take_all}
 use Rattle.std.specs.Simd.Lanes.{number_l}

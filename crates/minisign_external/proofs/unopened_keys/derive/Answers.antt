@@ -1,3 +1,4 @@
+-- Proves the goals of `derive` that the prover leaves open.
 use Rattle.std.proofs.Common.{◌≡◌, ◌∙◌, inl}
 use Rattle.minisign_external.specs.SecretKeys.{open_within, unopened_record}
 use Rattle.minisign_external.proofs.Utf8.{no_text}

@@ -1,3 +1,4 @@
+-- Proves the goals of `derive_in_place` that the prover leaves open.
 use Rattle.std.proofs.Common.{◌≡◌, ◌∙◌, ap, sym}
 use Rattle.minisign.specs.Records.{SecretKeyRecord}
 use Rattle.minisign_external.specs.PublicKeys.{read_utf8}

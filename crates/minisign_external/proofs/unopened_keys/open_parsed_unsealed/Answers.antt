@@ -1,3 +1,4 @@
+-- Proves the goal of `open_parsed_unsealed` that the prover leaves open.
 use Rattle.minisign_external.proofs.OpenedKeys.{unsealed_refusal}
 use Rattle.minisign_external.proofs.unopened_keys.open_parsed_unsealed.Goals as goal
 

@@ -1,3 +1,4 @@
+-- Proves the goal of `open_sealed` that the prover leaves open.
 use Rattle.minisign_external.proofs.OpenedKeys.{sealed_refusal}
 use Rattle.minisign_external.proofs.unopened_keys.open_sealed.Goals as goal
 

@@ -1,3 +1,4 @@
+-- Proves the goal of `read_unopened_key` that the prover leaves open.
 use Rattle.std.proofs.Common.{Ok, ap, sym, ◌∙◌}
 use Rattle.minisign_external.specs.SecretKeys.{unopened_record}
 use Rattle.minisign_external.proofs.UnopenedKeys.{opens_as}

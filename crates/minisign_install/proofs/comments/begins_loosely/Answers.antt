@@ -1,3 +1,4 @@
+-- Proves the goal of `begins_loosely` that the prover leaves open.
 use Rattle.std.proofs.Common.{◌≡◌, ◌∙◌, length, rules, sym}
 use Rattle.minisign_install.proofs.Fields.{ended}
 use Rattle.minisign_install.proofs.comments.begins_loosely.Goals as goal

@@ -1,3 +1,4 @@
+-- The loop invariant and termination measure of `begins_loosely`.
 use Rattle.std.specs.Prelude.{is_some}
 use Rattle.std.proofs.Common.{◌≡◌, length}
 use Rattle.minisign_install.specs.Comments.{strip, folded}

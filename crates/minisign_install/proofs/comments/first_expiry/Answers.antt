@@ -1,3 +1,4 @@
+-- Proves the goals of `first_expiry` that the prover leaves open.
 use Rattle.std.proofs.Common.{◌∙◌, ap, rules, sym}
 use Rattle.std.specs.List.{cons_option}
 use Rattle.minisign_install.specs.Comments.{expiries}

@@ -1,3 +1,4 @@
+-- The loop invariant and termination measure of `first_expiry`.
 use Rattle.std.proofs.Common.{◌≡◌, length}
 use Rattle.minisign_install.specs.Comments.{expiries}
 use denote.Text.{Utf8}

@@ -1,3 +1,4 @@
+-- Proves the goals of `first_field` that the prover leaves open.
 use Rattle.std.specs.Prelude.{filter_map}
 use Rattle.std.proofs.Common.{◌≡◌, ◌==◌, ◌∙◌, [], List, ℕ, None, false, ap, get_or, lit<, refl, sym}
 use Rattle.std.proofs.lemmas.List.Elements.{All-from_get_or}

@@ -1,3 +1,4 @@
+-- The loop invariant and termination measure of `first_value`.
 use Rattle.std.proofs.Common.{◌≡◌, length}
 use Rattle.minisign_install.specs.Comments.{values_of}
 use denote.Text.{Utf8}

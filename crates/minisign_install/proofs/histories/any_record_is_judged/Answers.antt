@@ -1,3 +1,4 @@
+-- Proves the goal of `any_record_is_judged` that the prover leaves open.
 use Rattle.minisign_install.proofs.NewKeys.{damaged_stops, key_is_kept, missing_stops}
 use Rattle.minisign_install.proofs.NewKeys.{other_key_is_ignored, applies_to_record, version_is_kept}
 use Rattle.minisign_install.proofs.RollBacks.{roll_back_stays, version_reads_back}

@@ -1,3 +1,4 @@
+-- Proves the goal of `number_for` that the prover leaves open.
 use Rattle.std.proofs.Common.{◌∙◌}
 use Rattle.minisign_install.proofs.recording.number_for.Goals as goal
 

@@ -1,3 +1,4 @@
+-- Proves the goal of `write_record` that the prover leaves open.
 use Rattle.std.proofs.Common.{◌≡◌, ◌++◌, ◌∙◌, ap, arith, length, length-append, refl}
 use Rattle.std.specs.Fmt.{decimal}
 use Rattle.minisign_install.specs.RecordTexts.{last_lines}

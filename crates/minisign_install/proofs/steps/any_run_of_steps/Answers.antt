@@ -1,3 +1,4 @@
+-- Proves the goal of `any_run_of_steps` that the prover leaves open.
 use Rattle.minisign_install.proofs.StepArrivals.{good_update_has_run}
 use Rattle.minisign_install.proofs.StepChecks.{check_decides_alike}
 use Rattle.minisign_install.proofs.StepExamples.{good_update_exists}

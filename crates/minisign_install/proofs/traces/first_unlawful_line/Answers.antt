@@ -1,3 +1,4 @@
+-- Proves the goals of `first_unlawful_line` that the prover leaves open.
 use Rattle.std.proofs.Common.{arith, refl, rules, take_all}
 use Rattle.minisign_install.specs.Installations.{options_by}
 use Rattle.minisign_install.specs.Traces.{world_of}

@@ -1,3 +1,4 @@
+-- Proves the goal of `Sha512::finalize` that the prover leaves open.
 use Rattle.sha2.specs.Sha512.{sha512}
 use Rattle.minisign_sha2.specs.Hashers.{IsFed512}
 use Rattle.minisign_sha2.proofs.Sha512.finalize.Goals as goal

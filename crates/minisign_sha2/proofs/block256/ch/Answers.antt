@@ -1,3 +1,4 @@
+-- Proves the goal of `ch` that the prover leaves open.
 use Rattle.std.proofs.Common.{w32, arith}
 use Rattle.minisign_sha2.proofs.ChMaj.{ch_short}
 use Rattle.minisign_sha2.proofs.block256.ch.Goals as goal

@@ -1,3 +1,4 @@
+-- The loop invariants of `compress`.
 use Rattle.std.proofs.Common.{◌≡◌, ℕ, ◌<◌, length, slice_index, ◌*◌}
 use Rattle.sha2.specs.Sha256.{IsRoundsAt, word_at}
 use Rattle.minisign_sha2.proofs.block256.compress.Given as goal

@@ -1,3 +1,4 @@
+-- Proves the goal of `first_four_steps` that the prover leaves open.
 use Rattle.std.proofs.Common.{ap, ◌∙◌, arith}
 use Rattle.sha2.specs.Sha256.{rounds, schedule}
 use Rattle.minisign_sha2.proofs.block256.first_four_steps.Goals as goal

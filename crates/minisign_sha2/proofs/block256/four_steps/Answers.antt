@@ -1,3 +1,4 @@
+-- Proves the goal of `four_steps` that the prover leaves open.
 use Rattle.std.proofs.Common.{arith}
 use Rattle.minisign_sha2.proofs.Schedule256.{IsRoundsAt_cast}
 use Rattle.minisign_sha2.proofs.block256.four_steps.Goals as goal

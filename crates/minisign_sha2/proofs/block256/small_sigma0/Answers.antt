@@ -1,3 +1,4 @@
+-- Proves the goal of `small_sigma0` that the prover leaves open.
 use Rattle.std.proofs.Common.{ℕ, ◌/◌, ◌^◌, bit_xor, ap, arith}
 use Rattle.minisign_sha2.proofs.Rotations.{rotated_two}
 use Rattle.minisign_sha2.proofs.block256.small_sigma0.Goals as goal

@@ -1,3 +1,4 @@
+-- Proves the goal of `big_sigma1` that the prover leaves open.
 use Rattle.std.proofs.Common.{arith}
 use Rattle.minisign_sha2.proofs.Rotations.{rotated_three}
 use Rattle.minisign_sha2.proofs.block512.big_sigma1.Goals as goal

@@ -1,3 +1,4 @@
+-- Proves the goals of `compress` that the prover leaves open.
 use Rattle.std.proofs.Common.{rules, ◌≡◌, refl, inl, inr, ap, ◌*◌, ◌∙◌, arith}
 use Rattle.std.proofs.lemmas.List.{get_or-set_same, get_or-set_other}
 use Rattle.std.proofs.lemmas.Bool.{cases_lt}

@@ -1,3 +1,4 @@
+-- Proves the goal of `first_step` that the prover leaves open.
 use Rattle.std.proofs.Common.{refl}
 use Rattle.minisign_sha2.proofs.Schedule512.{rounds_first}
 use Rattle.minisign_sha2.proofs.block512.first_step.Goals as goal

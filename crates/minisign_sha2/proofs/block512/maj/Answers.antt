@@ -1,3 +1,4 @@
+-- Proves the goal of `maj` that the prover leaves open.
 use Rattle.minisign_sha2.proofs.ChMaj.{maj_short}
 use Rattle.minisign_sha2.proofs.block512.maj.Goals as goal
 

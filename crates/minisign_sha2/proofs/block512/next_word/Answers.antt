@@ -1,3 +1,4 @@
+-- Proves the goal of `next_word` that the prover leaves open.
 use Rattle.std.proofs.Common.{◌≡◌, ◌%◌, arith, refl}
 use Rattle.minisign_sha2.proofs.block512.next_word.Goals as goal
 

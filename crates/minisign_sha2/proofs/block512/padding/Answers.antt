@@ -1,3 +1,4 @@
+-- Proves the goal of `padding` that the prover leaves open.
 use Rattle.std.proofs.Common.{◌-◌, ◌%◌, arith}
 use Rattle.minisign_sha2.proofs.Absorbing512.{padding-take}
 use Rattle.minisign_sha2.proofs.block512.padding.Goals as goal

@@ -1,3 +1,4 @@
+-- Proves the goal of `small_sigma1` that the prover leaves open.
 use Rattle.std.proofs.Common.{ℕ, ◌/◌, ◌^◌, bit_xor, ap, arith}
 use Rattle.minisign_sha2.proofs.Rotations.{rotated_two}
 use Rattle.minisign_sha2.proofs.block512.small_sigma1.Goals as goal

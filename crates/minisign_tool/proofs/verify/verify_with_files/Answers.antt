@@ -22,8 +22,7 @@ returns-clause-accepted g c =
         box = h.box;
         key_read = h.key_read;
         box_read = h.box_read;
-        vouches =
-            h.verified.vouches;
+        vouches = h.verified.vouches;
       };
       lines_received = h.verified.status_received;
     })
@@ -44,8 +43,7 @@ returns-clause-refused g c =
       c.deref-2.result.now,
       record {
         first_read = rw c.deref.ensures texts.first_read;
-        second_read =
-            rw c.deref-2.ensures texts.second_read;
+        second_read = rw c.deref-2.ensures texts.second_read;
       },
       both.0,
       both.1,

@@ -15,8 +15,7 @@ returns-clause-refused g c =
       record {
         reads_key = c.in_ok-pk.ensures;
         reads_signature = c.in_ok-bones.ensures.read.0;
-        known =
-            c.in_ok-bones.ensures.read.1;
+        known = c.in_ok-bones.ensures.read.1;
       },
       subst (λ x. VerifyingFails (g.S.Scheme.accepts c.args.scheme.now) c.in_ok-pk.pk x says_only
           (rereader_call g.R.Source g.R.Rereader.steady c.args.data_reader.now c.verify.new.data_reader)

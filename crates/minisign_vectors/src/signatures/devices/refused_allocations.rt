@@ -27,7 +27,7 @@ const ZEROS: [u8; 128] = [0; 128];
 
 // Returns true if verifying `abc` with the signature text under key A writes 60 bytes, the status
 // lines, to the status sink and three bytes, the data, to the output.
-fn copied(alloc: Global, sig_text: &str) -> Result<bool> {
+fn verifies_and_copies(alloc: Global, sig_text: &str) -> Result<bool> {
     let mut data = SliceSource::new(b"abc");
     let mut status = Counting { bytes: 0 };
     let mut out = Counting { bytes: 0 };
@@ -38,7 +38,7 @@ fn copied(alloc: Global, sig_text: &str) -> Result<bool> {
 
 // Returns true if signing with a secret key text and a typed password gives the precomputed signature
 // text.
-fn signed(alloc: Global, sk_text: &str) -> Result<bool> {
+fn signs_with_typed_password(alloc: Global, sk_text: &str) -> Result<bool> {
     let mut prompt = typed(b"password\n");
     let mut data = SliceSource::new(b"abc");
     let mut random = FixedRandom::new(&ZEROS);
@@ -48,7 +48,7 @@ fn signed(alloc: Global, sk_text: &str) -> Result<bool> {
 
 // Signs `abc` with key A at the time 7, with the default comments, and verifies the signature under
 // the public key before returning it.
-fn made_by_default(alloc: Global) -> Result<SignatureBox> {
+fn sign_with_defaults(alloc: Global) -> Result<SignatureBox> {
     let secret = key_a()?;
     let public = PublicKey::from_secret_key(&secret)?;
     let mut data = SliceSource::new(b"abc");
@@ -56,9 +56,10 @@ fn made_by_default(alloc: Global) -> Result<SignatureBox> {
     signed_from(alloc, Some(&public), &secret, &mut data, &mut random, 7)
 }
 
-// Returns true if a copy of this signature box, written as text, has the default trusted comment.
-fn made(alloc: Global) -> Result<bool> {
-    let made = made_by_default(alloc)?;
+// Returns true if a copy of the signature box of `sign_with_defaults`, written as text, has the default
+// trusted comment.
+fn signs_with_default_comment(alloc: Global) -> Result<bool> {
+    let made = sign_with_defaults(alloc)?;
     let text = copy_text(alloc, &made)?;
     text_has_comments(alloc, text.as_str(), "timestamp:7")
 }
@@ -73,7 +74,7 @@ fn has_record(alloc: Global, sig_text: &str) -> Result<bool> {
 
 // Returns true if the example caller, which signs and verifies with raw keys, gives the precomputed
 // signature.
-fn signed_and_verified(alloc: Global) -> Result<bool> {
+fn example_signs_and_verifies(alloc: Global) -> Result<bool> {
     let sig_text = example(alloc, &PUBLIC_BYTES)?;
     if !text_has_comments(alloc, sig_text.as_str(), "timestamp:1555779966")? {
         return Ok(false);
@@ -83,7 +84,7 @@ fn signed_and_verified(alloc: Global) -> Result<bool> {
 
 // Returns true if signing with an encrypted key gives the precomputed signature text, and the prompt
 // writes 81 bytes to its growing buffer: the texts of asking for a password and decrypting.
-fn signed_and_returned(alloc: Global) -> Result<bool> {
+fn signs_with_growing_prompt(alloc: Global) -> Result<bool> {
     let mut prompt = Prompt::new(SliceSource::new(b"password\n"), VecSink::new(alloc));
     let mut data = SliceSource::new(b"abc");
     let mut random = FixedRandom::new(&ZEROS);
@@ -93,7 +94,7 @@ fn signed_and_returned(alloc: Global) -> Result<bool> {
 }
 
 // Returns true if growing buffers receive the status and the output.
-fn copied_into_buffer(alloc: Global) -> Result<bool> {
+fn copies_into_growing_buffers(alloc: Global) -> Result<bool> {
     let mut data = SliceSource::new(b"abc");
     let mut status = VecSink::new(alloc);
     let mut out = VecSink::new(alloc);
@@ -104,11 +105,11 @@ fn copied_into_buffer(alloc: Global) -> Result<bool> {
 
 // Returns true if each call that derives no key gives the right result or out of memory.
 fn calls_without_kdf_hold(alloc: Global) -> bool {
-    let copied_prehashed = check_holds_or_out_of_memory(copied(alloc, SIGNATURE_TEXT));
-    let legacy = check_holds_or_out_of_memory(copied(alloc, LEGACY_TEXT));
-    let unsealed = check_holds_or_out_of_memory(signed(alloc, SECRET_TEXT));
-    let made_signature = check_holds_or_out_of_memory(made(alloc));
-    let verified = check_holds_or_out_of_memory(signed_and_verified(alloc));
+    let copied_prehashed = check_holds_or_out_of_memory(verifies_and_copies(alloc, SIGNATURE_TEXT));
+    let legacy = check_holds_or_out_of_memory(verifies_and_copies(alloc, LEGACY_TEXT));
+    let unsealed = check_holds_or_out_of_memory(signs_with_typed_password(alloc, SECRET_TEXT));
+    let made_signature = check_holds_or_out_of_memory(signs_with_default_comment(alloc));
+    let verified = check_holds_or_out_of_memory(example_signs_and_verifies(alloc));
     copied_prehashed && legacy && unsealed && made_signature && verified
 }
 
@@ -119,11 +120,11 @@ fn signs_and_verifies_or_reports_out_of_memory(rt: HostRuntime) {
 
 #[test]
 fn signs_with_encrypted_key_or_reports_out_of_memory(rt: HostRuntime) {
-    assert!(rt; check_holds_or_out_of_memory(signed(rt.alloc(), SEALED)));
+    assert!(rt; check_holds_or_out_of_memory(signs_with_typed_password(rt.alloc(), SEALED)));
 }
 
 #[test]
 fn signs_into_growing_buffers_or_reports_out_of_memory(rt: HostRuntime) {
-    assert!(rt; check_holds_or_unwritten(signed_and_returned(rt.alloc())));
-    assert!(rt; check_holds_or_unwritten(copied_into_buffer(rt.alloc())));
+    assert!(rt; check_holds_or_unwritten(signs_with_growing_prompt(rt.alloc())));
+    assert!(rt; check_holds_or_unwritten(copies_into_growing_buffers(rt.alloc())));
 }

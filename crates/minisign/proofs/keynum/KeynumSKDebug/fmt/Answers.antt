@@ -7,9 +7,9 @@ use Rattle.minisign.specs.Records.{secret_text}
 use Rattle.minisign.proofs.keynum.KeynumSKDebug.fmt.Goals as goal
 
 -- The text of the first i + 1 bytes is that of the first i followed by the digits of the next byte.
-one_more : (bytes : List ℕ) (i : ℕ) → i < length bytes → secret_text (take i bytes)
+text_of_next_byte : (bytes : List ℕ) (i : ℕ) → i < length bytes → secret_text (take i bytes)
     ++ digits 16 false (get_or bytes i 0) ≡ secret_text (take (i + 1) bytes)
-one_more bytes i below =
+text_of_next_byte bytes i below =
     sym (ap (flat_map (digits 16 false)) (take_more bytes i 0 below) ∙ flat_map-append (digits 16 false)
     (take i bytes) (get_or bytes i 0 ∷ [])
     ∙ ap (λ l. secret_text (take i bytes) ++ l) (append-nil (digits 16 false (get_or bytes i 0))))
@@ -18,7 +18,7 @@ pub bytes-init : goal.bytes-init
 bytes-init g c = λ plain. search rules
 
 pub bytes-preserved : goal.bytes-preserved
-bytes-preserved g c = λ plain. has_written_of_eq _ _ _ _ _ (one_more _ _ (omega arith))
+bytes-preserved g c = λ plain. has_written_of_eq _ _ _ _ _ (text_of_next_byte _ _ (omega arith))
     (has_written_append _ _ _ _ _ _ (c.bytes.invariant plain) (search rules))
 
 pub returns : goal.returns

@@ -19,8 +19,7 @@ returns-clause-is_new_pair g c =
       keynum = keynum;
       salt = salt;
       lengths = c.in_ok-drawn.ensures.lengths;
-      salt_length =
-          c.in_ok-drawn.ensures.salt;
+      salt_length = c.in_ok-drawn.ensures.salt;
       drawn = c.in_ok-drawn.ensures.drawn;
       sealed = sealed;
     } in
@@ -28,8 +27,7 @@ returns-clause-is_new_pair g c =
       password = typed;
       prompted = prompted;
       pair = made;
-      opens =
-          sealed_pair _ _ z _ _ made;
+      opens = sealed_pair _ _ z _ _ made;
     }) c.seal_pair.ensures.sealed
 
 pub returns-clause-refused : goal.returns-clause-refused

@@ -14,8 +14,7 @@ returns-clause-opens g c =
       salt = _;
       lengths = drawn.lengths;
       salt_length = drawn.salt;
-      drawn =
-          drawn.drawn;
+      drawn = drawn.drawn;
       sealed = rw (c.as_bytes.ensures.value) at sealed;
     })) c.make_sealed_pair.ensures.sealed
 
@@ -35,8 +34,7 @@ returns-clause-refused g c =
           bytes = seed ++ keynum ++ salt;
           count = count;
           drawn = drawn.drawn;
-          no_new_fault =
-              drawn.no_new_fault;
+          no_new_fault = drawn.no_new_fault;
         },
         memory,
       ),

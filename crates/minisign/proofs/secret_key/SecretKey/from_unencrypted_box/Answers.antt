@@ -1,7 +1,7 @@
 -- Proves the goals of `SecretKey::from_unencrypted_box` that the prover leaves open.
 use Rattle.std.proofs.Common.{sym}
 use Rattle.minisign.proofs.Openings.{unencrypted_refused, unencrypted_value, unread_unencrypted}
-use Rattle.minisign.proofs.Beginnings.{err_is}
+use Rattle.minisign.proofs.ErrorsAndPrefixes.{err_is}
 use Rattle.minisign.proofs.secret_key.SecretKey.from_unencrypted_box.Goals as goal
 
 pub returns-in_err-sk : goal.returns-in_err-sk

@@ -4,7 +4,7 @@ use Rattle.minisign.proofs.Common.{prompt_call}
 use Rattle.minisign.proofs.Openings.{asked_opening, closed_opening, given_opening, sealed_passed}
 use Rattle.minisign.proofs.Openings.{sealed_text}
 use Rattle.minisign.proofs.ReadTexts.{same_end}
-use Rattle.minisign.proofs.Beginnings.{err_is}
+use Rattle.minisign.proofs.ErrorsAndPrefixes.{err_is}
 use Rattle.minisign.proofs.secret_key.SecretKey.open.Goals as goal
 
 pub returns-in_err-check_sealed-clause-opens : goal.returns-in_err-check_sealed-clause-opens

@@ -2,7 +2,7 @@
 use Rattle.std.proofs.Common.{Ok, Err, string_bytes, sym, subst}
 use Rattle.minisign.proofs.Common.{prompt_call, second_ended, stopped_first, typed_is, ConversationEnds}
 use Rattle.minisign.proofs.Common.{asking_steps, typed_password}
-use Rattle.minisign.proofs.Beginnings.{passed_up, on_fault, on_value}
+use Rattle.minisign.proofs.ErrorsAndPrefixes.{passed_up, on_fault, on_value}
 use Rattle.minisign.specs.Sealing.{decrypting_steps, asking_text}
 use Rattle.minisign.proofs.secret_key.SecretKey.open_asking.Goals as goal
 

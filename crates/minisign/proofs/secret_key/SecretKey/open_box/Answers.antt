@@ -1,7 +1,7 @@
 -- Proves the goals of `SecretKey::open_box` that the prover leaves open.
 use Rattle.std.proofs.Common.{refl, sym}
 use Rattle.minisign.proofs.Openings.{closed_opening, headline_of, unread_text}
-use Rattle.minisign.proofs.Beginnings.{err_is}
+use Rattle.minisign.proofs.ErrorsAndPrefixes.{err_is}
 use Rattle.minisign.proofs.secret_key.SecretKey.open_box.Goals as goal
 
 pub returns-in_err-sk-clause-opens : goal.returns-in_err-sk-clause-opens

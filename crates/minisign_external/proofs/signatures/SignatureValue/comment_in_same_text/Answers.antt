@@ -1,3 +1,4 @@
+-- Proves the goals of `SignatureValue::comment_in_same_text` that the prover leaves open.
 use Rattle.std.proofs.Common.{◌≡◌, ◌∙◌, rules, true}
 use Rattle.std.specs.Prelude.{bytes_eq}
 use Rattle.minisign_hash.specs.Blake2b.{blake2b_digest}

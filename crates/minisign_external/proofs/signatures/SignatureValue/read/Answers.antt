@@ -1,3 +1,4 @@
+-- Proves the goals of `SignatureValue::read` that the prover leaves open.
 use Rattle.std.proofs.Common.{◌∙◌, ap, refl}
 use Rattle.minisign.specs.SignatureText.{read_signature}
 use Rattle.minisign.specs.Texts.{map_ok}

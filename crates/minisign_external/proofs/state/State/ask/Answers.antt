@@ -1,6 +1,7 @@
+-- Proves the goals of `State::ask` that the prover leaves open.
 use Rattle.std.proofs.Common.{◌∙◌, ◌≡◌, Err, Result, length, rules, sym}
 use Rattle.minisign_base.specs.Fault.{Fault}
-use Rattle.minisign_external.specs.States.{asking_result}
+use Rattle.minisign_external.specs.States.{result_of_asking}
 use Rattle.minisign_external.specs.declared.state.Refusal.{Refusal}
 use Rattle.minisign_external.proofs.ReadValues.{asked_as, asking_as}
 use Rattle.minisign_external.proofs.Verdicts.{opening_refusal_under}
@@ -10,7 +11,7 @@ pub returns-in-Err-clause-text : goal.returns-in-Err-clause-text
 returns-in-Err-clause-text c = λ t from.
     let a = c.args in
     let value : ◌≡◌ {A = Result Unit (Refusal Fault)} (Err c.in-Err.refusal)
-    (asking_result a.self.now a.key.now a.signature.now a.sig_text.now a.allow_legacy
+    (result_of_asking a.self.now a.key.now a.signature.now a.sig_text.now a.allow_legacy
     (length a.message.now)) = search rules in
     value ∙ asking_as a.signature.now a.sig_text.now t from a.self.now a.key.now a.allow_legacy
     (length a.message.now)

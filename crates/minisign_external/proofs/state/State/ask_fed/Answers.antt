@@ -1,3 +1,4 @@
+-- Proves the goal of `State::ask_fed` that the prover leaves open.
 use Rattle.std.proofs.Common.{◌∙◌, ap, sym, subst, length, Err, IfErr}
 use Rattle.std.proofs.lemmas.Result.{err_from_is_err_and}
 use Rattle.minisign_external.specs.States.{IsTextRefusal}

@@ -1,3 +1,4 @@
+-- Proves the goals of `State::verdict` that the prover leaves open.
 use Rattle.std.proofs.Common.{◌∙◌, ◌==◌, ap, sym, Ok}
 use Rattle.minisign.specs.Texts.{and_then}
 use Rattle.minisign_external.proofs.Verdicts.{decided, opened_text, refuse, vouch}

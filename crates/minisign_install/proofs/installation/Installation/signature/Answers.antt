@@ -1,5 +1,6 @@
+-- Proves the goals of `Installation::signature` that the prover leaves open.
 use Rattle.std.proofs.Common.{◌∙◌, sym}
-use Rattle.minisign_install.proofs.HeldStates.{stored}
+use Rattle.minisign_install.proofs.HeldStates.{begun_holds}
 use Rattle.minisign_install.proofs.SignatureFiles.{begun_signature, unbegun_signature}
 use Rattle.minisign_install.proofs.installation.Installation.signature.Goals as goal
 
@@ -7,7 +8,7 @@ pub returns-then-is_begun-clause-steps : goal.returns-then-is_begun-clause-steps
 returns-then-is_begun-clause-steps c = λ s held file.
     let is = sym c.is_begun.ensures ∙ c.if-is_begun.true in
     begun_signature c.args.self.now _ s _ _ _ _ _ is
-    (c.signature.ensures.steps s (stored c.args.self.now s is held) file)
+    (c.signature.ensures.steps s (begun_holds c.args.self.now s is held) file)
 
 pub returns-else-is_begun-clause-steps : goal.returns-else-is_begun-clause-steps
 returns-else-is_begun-clause-steps c = λ s held file.

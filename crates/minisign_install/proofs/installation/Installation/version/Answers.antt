@@ -1,14 +1,15 @@
+-- Proves the goals of `Installation::version` that the prover leaves open.
 use Rattle.std.proofs.Common.{◌∙◌, ap, sym, if◌then◌else◌}
-use Rattle.minisign_install.proofs.HeldStates.{stored, unbegun}
+use Rattle.minisign_install.proofs.HeldStates.{begun_holds, unbegun_holds}
 use Rattle.minisign_install.proofs.installation.Installation.version.Goals as goal
 
 pub returns-then-is_begun : goal.returns-then-is_begun
 returns-then-is_begun c = λ s held.
     let is = sym c.is_begun.ensures ∙ c.if-is_begun.true in
-    let state_held = stored c.args.self.now s is held in
+    let state_held = begun_holds c.args.self.now s is held in
     c.version.ensures s state_held
 
 pub returns-else-is_begun : goal.returns-else-is_begun
 returns-else-is_begun c = λ s held.
     let is = sym c.is_begun.ensures ∙ c.if-is_begun.false in
-    sym (ap (λ b. if b then s.version else 0) (unbegun c.args.self.now s is held).1)
+    sym (ap (λ b. if b then s.version else 0) (unbegun_holds c.args.self.now s is held).1)

@@ -1,3 +1,4 @@
+-- Proves the goal of `Operation::of_number` that the prover leaves open.
 use Rattle.std.proofs.Common.{◌≤◌, arith, sym}
 use Rattle.std.proofs.lemmas.List.{get_or_past}
 use Rattle.minisign_install.specs.Step.{Nothing, operations}

@@ -1,3 +1,4 @@
+-- Proves the goals of `comment_fault` that the prover leaves open.
 use Rattle.minisign_install.proofs.CommentFaults.{first_fails, last_check, first_passes}
 use Rattle.minisign_install.proofs.installation.judging.comment_fault.Goals as goal
 

@@ -1,3 +1,4 @@
+-- Proves the goal of `expiry_fault` that the prover leaves open.
 use Rattle.std.proofs.Common.{◌∷◌, ◌∙◌, List, ℕ, ap, sym}
 use Rattle.minisign_install.specs.Comments.{expiry_label, value_of}
 use Rattle.minisign_install.specs.Decisions.{expiry_fault, number_of}

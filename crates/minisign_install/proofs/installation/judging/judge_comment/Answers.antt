@@ -1,3 +1,4 @@
+-- Proves the goals of `judge_comment` that the prover leaves open.
 use Rattle.std.proofs.Common.{◌∙◌}
 use Rattle.minisign_install.proofs.CommentFaults.{both_utf8, comment_not_utf8, file_not_utf8}
 use Rattle.minisign_install.proofs.installation.judging.judge_comment.Goals as goal

@@ -1,3 +1,4 @@
+-- Proves the goal of `number_in` that the prover leaves open.
 use Rattle.minisign_install.proofs.CommentFaults.{number_is}
 use Rattle.minisign_install.proofs.installation.judging.number_in.Goals as goal
 

@@ -1,3 +1,4 @@
+-- Proves the goals of `entry_in` that the prover leaves open.
 use Rattle.std.proofs.Common.{ap, sym, Err, ◌∙◌}
 use Rattle.std.proofs.lemmas.Str.{is_utf8-from_IsUtf8}
 use Rattle.minisign_install.proofs.HeldListings.{looked_up, no_list_text, no_name_text}

@@ -1,3 +1,4 @@
+-- Proves the goal of `fault_for` that the prover leaves open.
 use Rattle.minisign_install.proofs.Recorded.{fault_is}
 use Rattle.minisign_install.proofs.installation.recorded.fault_for.Goals as goal
 

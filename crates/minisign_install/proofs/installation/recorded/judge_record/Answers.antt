@@ -1,3 +1,4 @@
+-- Proves the goals of `judge_record` that the prover leaves open.
 use Rattle.std.proofs.Common.{◌∙◌, ap, sym}
 use Rattle.minisign_install.specs.Decisions.{judge_version}
 use Rattle.minisign_install.specs.Installations.{options_of}

@@ -1,3 +1,4 @@
+-- Proves the goals of `used_record` that the prover leaves open.
 use Rattle.std.proofs.Common.{◌∙◌, refl, sym}
 use Rattle.minisign_install.proofs.installation.recorded.used_record.Goals as goal
 

@@ -1,3 +1,4 @@
+-- Proves the goal of `judge_keys` that the prover leaves open.
 use Rattle.std.proofs.Common.{◌∙◌, sym}
 use Rattle.minisign_install.specs.Installations.{given, options_of}
 use Rattle.minisign_install.proofs.SignatureFiles.{form_judged}

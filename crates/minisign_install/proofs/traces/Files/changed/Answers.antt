@@ -1,3 +1,4 @@
+-- Proves the goal of `Files::changed` that the prover leaves open.
 use Rattle.std.proofs.Common.{◌∙◌}
 use Rattle.minisign_install.proofs.FullTraces.{is_longer}
 use Rattle.minisign_install.proofs.traces.Files.changed.Goals as goal

@@ -1,3 +1,4 @@
+-- Proves the goals of `Follower::call` that the prover leaves open.
 use Rattle.std.proofs.Common.{◌∙◌, ap, rules, sym}
 use Rattle.std.proofs.Common.{if◌then◌else◌, [], List, ℕ}
 use Rattle.minisign_install.specs.Step.{step}

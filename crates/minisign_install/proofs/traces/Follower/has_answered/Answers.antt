@@ -1,3 +1,4 @@
+-- Proves the goals of `Follower::has_answered` that the prover leaves open.
 use Rattle.std.specs.Cmp.{booleans_Decides}
 use Rattle.std.proofs.Common.{◌∙◌, List, ap, arith, sym, ℕ}
 use Rattle.minisign_install.specs.Traces.{world_of}

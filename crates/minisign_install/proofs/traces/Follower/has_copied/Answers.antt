@@ -1,3 +1,4 @@
+-- Proves the goal of `Follower::has_copied` that the prover leaves open.
 use Rattle.std.proofs.Common.{◌∙◌, sym}
 use Rattle.minisign_install.proofs.Tracing.{some_of}
 use Rattle.minisign_install.proofs.traces.Follower.has_copied.Goals as goal

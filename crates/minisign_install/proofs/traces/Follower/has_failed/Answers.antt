@@ -1,3 +1,4 @@
+-- Proves the goal of `Follower::has_failed` that the prover leaves open.
 use Rattle.std.proofs.Common.{◌∙◌, sym}
 use Rattle.minisign_install.proofs.Tracing.{failed_performs}
 use Rattle.minisign_install.proofs.traces.Follower.has_failed.Goals as goal

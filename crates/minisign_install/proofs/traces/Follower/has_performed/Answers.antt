@@ -1,3 +1,4 @@
+-- Proves the goals of `Follower::has_performed` that the prover leaves open.
 use Rattle.std.proofs.Common.{◌∙◌, refl, sym}
 use Rattle.minisign_install.specs.Traces.{world_of}
 use Rattle.minisign_install.proofs.FullTraces.{answer_leaves, content_is, copy_found, in_use_found, none_seen}

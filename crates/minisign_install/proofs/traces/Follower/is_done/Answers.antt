@@ -1,3 +1,4 @@
+-- Proves the goals of `Follower::is_done` that the prover leaves open.
 use Rattle.std.proofs.Common.{◌∙◌, refl, sym}
 use Rattle.minisign_install.specs.Traces.{world_of}
 use Rattle.minisign_install.proofs.FullTraces.{done_as, done_found}

@@ -1,3 +1,4 @@
+-- Proves the goal of `Follower::line` that the prover leaves open.
 use Rattle.minisign_install.proofs.traces.Follower.line.Goals as goal
 
 pub returns-in-Call-clause-sound : goal.returns-in-Call-clause-sound

@@ -1,3 +1,4 @@
+-- Proves the goals of `Follower::next_files` that the prover leaves open.
 use Rattle.std.proofs.Common.{refl}
 use Rattle.minisign_install.specs.Traces.{world_of}
 use Rattle.minisign_install.proofs.Tracing.{grown_seen, not_growing}

@@ -1,3 +1,4 @@
+-- Proves the goals of `Follower::now_read` that the prover leaves open.
 use Rattle.std.proofs.Common.{refl}
 use Rattle.minisign_install.specs.Traces.{world_of}
 use Rattle.minisign_install.proofs.FullTraces.{piece_leaves}

@@ -1,6 +1,7 @@
+-- Proves the goals of `Follower::reports` that the prover leaves open.
 use Rattle.std.proofs.Common.{sym}
 use Rattle.minisign_install.specs.Traces.{event_of}
-use Rattle.minisign_install.proofs.FullTraces.{other_reported, other_text, stays_asked}
+use Rattle.minisign_install.proofs.FullTraces.{other_reported, other_text, question_was_due}
 use Rattle.minisign_install.proofs.Tracing.{signature_is}
 use Rattle.minisign_install.proofs.traces.Follower.reports.Goals as goal
 
@@ -23,7 +24,7 @@ returns-in_default-clause-sound c = λ is w s m new knows follows performs.
       stored = stored;
       fits = fitting;
       asked = follows.asked;
-      whole = λ asked. follows.whole (stays_asked s (event_of c.args.report.now) fitting
+      whole = λ asked. follows.whole (question_was_due s (event_of c.args.report.now) fitting
           (other_text c.args.report.now c.in_default.not-Signature) asked);
     }
 

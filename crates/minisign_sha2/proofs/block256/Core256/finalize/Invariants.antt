@@ -1,3 +1,4 @@
+-- The loop invariant of `Core256::finalize`.
 use Rattle.std.proofs.Common.{◌≡◌, ◌*◌, length, take}
 use Rattle.sha2.specs.Sha256.{digest_bytes}
 use Rattle.minisign_sha2.proofs.block256.Core256.finalize.Given as goal

@@ -1,3 +1,4 @@
+-- The loop invariant of `Core512::finalize`.
 use Rattle.std.proofs.Common.{◌≡◌, ◌*◌, length, take}
 use Rattle.sha2.specs.Sha512.{digest_bytes}
 use Rattle.minisign_sha2.proofs.block512.Core512.finalize.Given as goal

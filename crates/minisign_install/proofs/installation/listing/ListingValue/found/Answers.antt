@@ -1,3 +1,4 @@
+-- Proves the goal of `ListingValue::found` that the prover leaves open.
 use Rattle.std.specs.Prelude.{Ok, replicate, length, ◌≡◌}
 use Rattle.std.proofs.Common.{ap, arith, sym, ◌∙◌}
 use Rattle.minisign_install.proofs.HeldListings.{front_is}

@@ -1,3 +1,4 @@
+-- Proves the goal of `Progress::begin` that the prover leaves open.
 use Rattle.std.proofs.Common.{[], None, ◌∙◌, refl, subst, sym}
 use Rattle.std.specs.Prelude.{Option, ◌==◌}
 use Rattle.minisign_install.specs.Installations.{WasRead}

@@ -1,3 +1,4 @@
+-- Proves the goals of `Progress::bytes` that the prover leaves open.
 use Rattle.std.proofs.Common.{◌≡◌, ◌==◌, Bool, true, false, if◌then◌else◌, length, rules, subst, sym}
 use Rattle.minisign_install.specs.Installations.{Steps, end_event}
 use Rattle.minisign_install.specs.Step.{PieceRead}

@@ -1,3 +1,4 @@
+-- Proves the goals of `Progress::digest` that the prover leaves open.
 use Rattle.std.proofs.lemmas.Bool.{eq-eqb, ne_eqb}
 use Rattle.minisign_install.proofs.HeldListings.{blake2b_read, digest_of_data, digest_of_list}
 use Rattle.minisign_install.proofs.installation.progress.Progress.digest.Goals as goal

@@ -1,3 +1,4 @@
+-- Proves the goal of `Progress::fault` that the prover leaves open.
 use Rattle.std.proofs.Common.{◌∙◌, sym, ap}
 use Rattle.minisign_install.specs.Step.{State}
 use Rattle.minisign_install.proofs.HeldStates.{fault_found}

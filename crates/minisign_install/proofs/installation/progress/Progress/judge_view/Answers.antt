@@ -1,3 +1,4 @@
+-- Proves the goal of `Progress::judge_view` that the prover leaves open.
 use Rattle.std.proofs.Common.{◌∙◌, ap, subst, sym}
 use Rattle.minisign_install.specs.Decisions.{judge_keys}
 use Rattle.minisign_install.specs.Installations.{SignatureLeads, given}

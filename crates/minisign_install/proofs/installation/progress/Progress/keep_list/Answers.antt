@@ -1,3 +1,4 @@
+-- Proves the goal of `Progress::keep_list` that the prover leaves open.
 use Rattle.std.specs.Prelude.{[], ◌≡◌}
 use Rattle.std.specs.Option.{unwrap_or}
 use Rattle.std.proofs.Common.{ap, sym, subst, ◌∙◌}

@@ -1,6 +1,7 @@
+-- Proves the goal of `Progress::keep_signature` that the prover leaves open.
 use Rattle.std.proofs.Common.{◌∙◌, ap, bytes_eq, subst}
 use Rattle.minisign_install.specs.Installations.{IsReadAs, options_of}
-use Rattle.minisign_install.proofs.SignatureFiles.{file_is, with_signature}
+use Rattle.minisign_install.proofs.SignatureFiles.{same_file, with_signature}
 use Rattle.minisign_install.proofs.installation.progress.Progress.keep_signature.Goals as goal
 
 pub returns : goal.returns
@@ -11,7 +12,8 @@ returns c = λ s t state_held file view whole.
     (subst (λ f.
     IsReadAs c.of-self.result
     (options_of c.args.self.now.chosen f) t c.args.second.now c.version-recorded.result
-    c.args.time) (file_is c.args.self.now s state_held c.args.file.now file) (c.of-self.ensures t view)) whole
+    c.args.time) (same_file c.args.self.now s state_held c.args.file.now file)
+    (c.of-self.ensures t view)) whole
     (c.flag-self.ensures ∙ c.has_key_id.ensures
     ∙ ap (λ v. bytes_eq v.signature.keynum c.args.self.now.chosen.key.key_id) view)
     (c.flag-self-2.ensures ∙ c.has_key_id-2.ensures

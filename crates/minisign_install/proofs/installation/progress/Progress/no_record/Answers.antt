@@ -1,11 +1,12 @@
+-- Proves the goal of `Progress::no_record` that the prover leaves open.
 use Rattle.std.proofs.Common.{◌∙◌, None, ap}
 use Rattle.minisign_install.specs.Decisions.{judge_record}
-use Rattle.minisign_install.proofs.HeldStates.{fits, options_are, record_at}
+use Rattle.minisign_install.proofs.HeldStates.{event_fits, options_are, record_at}
 use Rattle.minisign_install.proofs.installation.progress.Progress.no_record.Goals as goal
 
 pub returns-clause-steps : goal.returns-clause-steps
 returns-clause-steps c = λ s state_held.
     let is = rw (c.is_reading_record.ensures, c.due.ensures) at c.if-not-is_reading_record.false in
-    fits s _ _ c.args.self.now _ _ state_held
+    event_fits s _ _ c.args.self.now _ _ state_held
     (record_at _ _ s _ is (ap (λ o. judge_record o (None)) (options_are _ s state_held)
     ∙ c.judge_missing_record-judged.ensures state_held.file)) (c.take_record.ensures.next_state s state_held)

@@ -1,3 +1,4 @@
+-- Proves the goal of `Progress::question_under` that the prover leaves open.
 use Rattle.std.proofs.Common.{◌∙◌, ap, sym}
 use Rattle.minisign_install.specs.Installations.{question_of}
 use Rattle.minisign_install.proofs.HeldStates.{due_is}

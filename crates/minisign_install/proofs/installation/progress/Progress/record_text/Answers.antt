@@ -1,3 +1,4 @@
+-- Proves the goals of `Progress::record_text` that the prover leaves open.
 use Rattle.std.proofs.Common.{refl, sym}
 use Rattle.minisign_install.proofs.HeldStates.{due_is, key_is, not_writing, writing}
 use Rattle.minisign_install.proofs.installation.progress.Progress.record_text.Goals as goal

@@ -1,3 +1,4 @@
+-- Proves the goal of `Progress::signature` that the prover leaves open.
 use Rattle.minisign_install.proofs.SignatureFiles.{signature_steps}
 use Rattle.minisign_install.proofs.installation.progress.Progress.signature.Goals as goal
 

@@ -1,11 +1,12 @@
+-- Proves the goals of `Progress::write_new_record` that the prover leaves open.
 use Rattle.std.proofs.Common.{◌≡◌, ◌<◌, ◌^◌, ◌∙◌, ℕ, arith, length, rules, sym}
 use Rattle.hex.specs.Hex.{IsBytes}
-use Rattle.minisign_install.proofs.HeldStates.{new_record_is, numbering_is, record_same, written}
+use Rattle.minisign_install.proofs.HeldStates.{new_record_is, numbering_is, record_same, is_written}
 use Rattle.minisign_install.proofs.installation.progress.Progress.write_new_record.Goals as goal
 
 pub returns-clause-written : goal.returns-clause-written
 returns-clause-written c = λ s state_held first.
-    written _ _ _ _ _ (record_same (c.numbering.ensures ∙ sym (numbering_is c.args.self.now s state_held))
+    is_written _ _ _ _ _ (record_same (c.numbering.ensures ∙ sym (numbering_is c.args.self.now s state_held))
     (c.new_version-version.ensures s state_held) (c.new_key.ensures s state_held first)
     (c.digest.ensures s state_held))
     c.write_record.ensures.written c.write_record.ensures.rest_unchanged c.write_record.ensures.unwritten

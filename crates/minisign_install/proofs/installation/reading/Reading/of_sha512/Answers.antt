@@ -1,3 +1,4 @@
+-- Proves the goal of `Reading::of_sha512` that the prover leaves open.
 use Rattle.std.specs.Prelude.{List, ℕ, replicate, length, ◌≡◌}
 use Rattle.std.proofs.Common.{ap, arith}
 use Rattle.minisign_install.proofs.HeldListings.{front_is}

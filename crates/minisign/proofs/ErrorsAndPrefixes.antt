@@ -1,4 +1,5 @@
--- Lemmas about results after an error, and about random bytes that are taken in two parts.
+-- Lemmas about the results of calls that pass an error on, and about bytes that calls remove from the front
+-- of the unread bytes, once or in two parts.
 use Rattle.std.proofs.Common.{◌≡◌, ℕ, List, ◌++◌, Option, None, Some, Result, Ok, Err, IsErrAnd, IfOk, IfErr}
 use Rattle.std.proofs.Common.{OnErr, append_assoc, ap, sym, ◌∙◌}
 use Rattle.minisign.proofs.Common.{Consumes, ⊤, PrefixIsRemoved, without_value}
@@ -27,6 +28,7 @@ pub on_value : {T E : Type 0} (r : Result T E) (P : T → Type 0) (Ends : Result
 on_value (Ok v) P Ends Q h ended f = f v h ended
 on_value (Err e) P Ends Q h _ f = tt
 
+-- A statement about an error follows from a clause about how the call ended.
 pub on_fault : {T E : Type 0} (r : Result T E) (Ends : Result ⊤ E → Type 0) (Q : E → Type 0)
     → Ends (without_value r)
     → ((e : E) → Ends (Err e) → Q e) → IfErr r Q

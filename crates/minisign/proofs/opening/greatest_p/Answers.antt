@@ -1,14 +1,15 @@
--- Proves the goal of `times` that the prover leaves open.
+-- Proves the goal of `greatest_p` that the prover leaves open.
 use Rattle.std.proofs.Common.{arith, ◌≡◌, ℕ, ◌-◌, ◌*◌, ◌/◌, ◌^◌, ◌<◌, ◌≤◌, min, nat_lt}
 use Rattle.std.proofs.Math.Nat.{div-lt_iff_lt-mul, mul-le-mul, mul_comm}
 use Rattle.std.proofs.lemmas.Bool.{lt-ltb, ltb-true, ltb_from_iff}
 use Rattle.std.proofs.lemmas.Nat.{pow_pos}
-use Rattle.minisign.proofs.opening.times.Goals as goal
+use Rattle.minisign.proofs.opening.greatest_p.Goals as goal
 
--- At most `most` rows are computed exactly if p is at most `most / 2 ^ n`, limited to 32 bits.
-same_test : (most n p m : ℕ) → p < 2 ^ 30 → m ≡ min (most / 2 ^ n) (2 ^ 32 - 1)
+-- The p parts of 2 ^ n rows each have at most `most` rows exactly if p is at most m, which is `most / 2 ^ n`
+-- limited to 32 bits.
+bound_on_p : (most n p m : ℕ) → p < 2 ^ 30 → m ≡ min (most / 2 ^ n) (2 ^ 32 - 1)
     → nat_lt m p ≡ nat_lt most (2 ^ n * p)
-same_test most n p m small is =
+bound_on_p most n p m small is =
     let turned = mul_comm (2 ^ n) p in
     ltb_from_iff (
       λ h. let below = ltb-true m p h in
@@ -31,5 +32,5 @@ few_parts r p some small =
 pub returns : goal.returns
 returns c =
     let v = c.args.params.now in
-    same_test _ _ _ _ (few_parts _ _ c.n_log2.ensures.accepted.block_size c.n_log2.ensures.accepted.product)
+    bound_on_p _ _ _ _ (few_parts _ _ c.n_log2.ensures.accepted.block_size c.n_log2.ensures.accepted.product)
     (grind arith)
