@@ -36,17 +36,17 @@ LIBRARIES = {ARCHIVES: [], "the archive for x86-64-v2": [f"V3={static_library.DI
              CLANG: ["PORTABLE=1", "CC=clang"]}
 
 
-def build(directory, name, words):
+def build(directory, name, make_arguments):
     """Builds the library, and with it as_c.c, which hashes, usual_keys.c, which decrypts a key that has the limits of
     `minisign -G`, and `c/minisign`. Returns their directory."""
-    out = os.path.join(directory, name.replace(" ", "-"))
+    output = os.path.join(directory, name.replace(" ", "-"))
     compiler = installed(needs.compiler_with_libsodium)
-    static_library.run_make(f"OUT={out}", f"CC={compiler}", *words)
+    static_library.run_make(f"OUT={output}", f"CC={compiler}", *make_arguments)
     for program in ("as_c", "usual_keys"):
-        subprocess.run([compiler, "-O2", "-I", os.path.join(HERE, "..", "include"), "-o", f"{out}/{program}",
+        subprocess.run([compiler, "-O2", "-I", os.path.join(HERE, "..", "include"), "-o", f"{output}/{program}",
                         os.path.join(HERE, f"{program}.c"),
-                        f"{out}/libminisign.a", "-lsodium"], check=True)
-    return out
+                        f"{output}/libminisign.a", "-lsodium"], check=True)
+    return output
 
 
 def seconds_of(*command):
@@ -58,65 +58,68 @@ def seconds_of(*command):
 def jobs(directory):
     """Returns the functions to time: for each job, a dictionary with a function for each library or program. Calling it
     runs the job once and returns the processor seconds."""
-    outs = {name: build(directory, name, words) for name, words in LIBRARIES.items()}
-    minisign, first = installed(needs.minisign), outs[ARCHIVES]
-    typed, key, data, large = (os.path.join(directory, name) for name in ("typed", "sealed.key", "data", "large"))
-    with open(typed, "w", encoding="ascii") as file:
+    outputs = {name: build(directory, name, words) for name, words in LIBRARIES.items()}
+    minisign, archives_output = installed(needs.minisign), outputs[ARCHIVES]
+    password_file, key, data, large = (os.path.join(directory, name) for name in ("typed", "sealed.key", "data", "large"))
+    with open(password_file, "w", encoding="ascii") as file:
         file.write("a password\n" * 2)
     with open(data, "wb") as file:
         file.write(b"data\n")
     with open(large, "wb") as file:
         file.write(bytes(range(256)) * (DATA_MIB * 4096))
-    measured([minisign, "-G", "-p", f"{key}.pub", "-s", key], typed)
-    measured([minisign, "-S", "-s", key, "-m", large], typed)
+    measured([minisign, "-G", "-p", f"{key}.pub", "-s", key], password_file)
+    measured([minisign, "-S", "-s", key, "-m", large], password_file)
     signing, verifying = ("-S", "-s", key, "-m", data), ("-V", "-q", "-p", f"{key}.pub", "-m", large)
-    programs = {**{name: f"{out}/minisign" for name, out in outs.items()}, "Minisign": minisign}
+    programs = {**{name: f"{output}/minisign" for name, output in outputs.items()}, "Minisign": minisign}
     return {
         f"hashing {DATA_MIB} MiB": {
-            **{name: (lambda out=out: seconds_of(f"{out}/as_c", "library", str(DATA_MIB))) for name, out in outs.items()},
-            "libsodium": lambda: seconds_of(f"{first}/as_c", "sodium", str(DATA_MIB)),
-            PLAIN: lambda: seconds_of(f"{first}/as_c", "plain", str(DATA_MIB)),
+            **{name: (lambda output=output: seconds_of(f"{output}/as_c", "library", str(DATA_MIB)))
+               for name, output in outputs.items()},
+            "libsodium": lambda: seconds_of(f"{archives_output}/as_c", "sodium", str(DATA_MIB)),
+            PLAIN: lambda: seconds_of(f"{archives_output}/as_c", "plain", str(DATA_MIB)),
         },
         f"`-V` of {DATA_MIB} MiB": {
             name: (lambda program=program: measured([program, *verifying]).processor_seconds)
             for name, program in programs.items()
         },
         "a call that decrypts a key": {
-            **{name: (lambda out=out: seconds_of(f"{out}/usual_keys", "open", key)) for name, out in outs.items()},
-            "libsodium's derivation": lambda: seconds_of(f"{first}/usual_keys", "sodium"),
+            **{name: (lambda output=output: seconds_of(f"{output}/usual_keys", "open", key)) for name, output in outputs.items()},
+            "libsodium's derivation": lambda: seconds_of(f"{archives_output}/usual_keys", "sodium"),
         },
         "`-S` with that key": {
-            name: (lambda program=program: measured([program, *signing], typed).processor_seconds)
+            name: (lambda program=program: measured([program, *signing], password_file).processor_seconds)
             for name, program in programs.items()
         },
     }
 
 
-def speed(seconds, others):
-    """Returns the speed relative to another program: the median of the ratios within a turn."""
-    return statistics.median(reference / ours for ours, reference in zip(seconds, others))
+def speed(seconds, reference_seconds):
+    """Returns the speed relative to another program: the median, over the turns, of `reference_seconds` divided by `seconds`."""
+    return statistics.median(reference / own for own, reference in zip(seconds, reference_seconds))
 
 
 def main():
     turns = int(sys.argv[1]) if len(sys.argv) > 1 else TURNS
     with tempfile.TemporaryDirectory() as directory:
         timings = jobs(directory)
-        results = {name: {what: [] for what in timed} for name, timed in timings.items()}
+        results = {name: {implementation: [] for implementation in timed} for name, timed in timings.items()}
         for _ in range(turns):
             for name, timed in timings.items():
-                for what, time in timed.items():
-                    results[name][what].append(time())
+                for implementation, time in timed.items():
+                    results[name][implementation].append(time())
     print("| Job | By | Processor time | Speed relative to the archives |\n|---|---|---|---|")
     for name, times in results.items():
-        for what, seconds in times.items():
-            print(f"| {name} | {what} | {min(seconds):.2f} s | {speed(seconds, times[ARCHIVES]):.2f} |")
+        for implementation, seconds in times.items():
+            print(f"| {name} | {implementation} | {min(seconds):.2f} s | {speed(seconds, times[ARCHIVES]):.2f} |")
     print()
     for name, times in results.items():
-        for what in (GCC, CLANG):
-            print(f"{name}, {what}: {speed(times[what], times[ARCHIVES]):.2f} of the speed of the archives; the goal is {GOAL}")
+        for implementation in (GCC, CLANG):
+            relative_speed = speed(times[implementation], times[ARCHIVES])
+            print(f"{name}, {implementation}: {relative_speed:.2f} of the speed of the archives; the goal is {GOAL}")
     hashing = results[f"hashing {DATA_MIB} MiB"]
-    for what in (GCC, CLANG):
-        print(f"{what} takes {1 / speed(hashing[what], hashing[PLAIN]):.2f} of the time of libsodium's portable BLAKE2b")
+    for implementation in (GCC, CLANG):
+        relative_time = 1 / speed(hashing[implementation], hashing[PLAIN])
+        print(f"{implementation} takes {relative_time:.2f} of the time of libsodium's portable BLAKE2b")
 
 
 if __name__ == "__main__":

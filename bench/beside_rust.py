@@ -80,26 +80,26 @@ JOBS = [
 
 def job(program, arguments, directory):
     """Runs a job, and returns its processor time in seconds and its output."""
-    ended = run([os.path.abspath(program), *arguments], directory=directory)
-    if ended.status != 0:
-        raise SystemExit(f"{program} {arguments}: exit status {ended.status}: {ended.output}")
-    return ended.processor_seconds, ended.output
+    result = run([os.path.abspath(program), *arguments], directory=directory)
+    if result.status != 0:
+        raise SystemExit(f"{program} {arguments}: exit status {result.status}: {result.output}")
+    return result.processor_seconds, result.output
 
 
 def main():
     rounds = int(sys.argv[2]) if len(sys.argv) > 2 else 5
     with tempfile.TemporaryDirectory() as build, tempfile.TemporaryDirectory() as directory:
-        theirs = built(sys.argv[1], build)
+        rust_program = built(sys.argv[1], build)
         prepare(directory)
         print("| Job | Rust crate | Here | Ratio |\n|---|---|---|---|")
-        for name, arguments, most in JOBS:
-            best = [float("inf"), float("inf")]
-            for _ in range(min(rounds, most)):
-                (first, expected), (second, output) = job(theirs, arguments, directory), job(OURS, arguments, directory)
+        for name, arguments, max_rounds in JOBS:
+            best_times = [float("inf"), float("inf")]
+            for _ in range(min(rounds, max_rounds)):
+                (rust_time, expected), (our_time, output) = job(rust_program, arguments, directory), job(OURS, arguments, directory)
                 if output != expected:
                     raise SystemExit(f"{name}: this library printed {output!r}, the crate {expected!r}")
-                best = [min(best[0], first), min(best[1], second)]
-            print(f"| {name} | {best[0]:.2f} s | {best[1]:.2f} s | {best[1] / best[0]:.2f} |", flush=True)
+                best_times = [min(best_times[0], rust_time), min(best_times[1], our_time)]
+            print(f"| {name} | {best_times[0]:.2f} s | {best_times[1]:.2f} s | {best_times[1] / best_times[0]:.2f} |", flush=True)
 
 
 if __name__ == "__main__":

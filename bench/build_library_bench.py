@@ -30,15 +30,15 @@ def build(directory):
     for name in os.listdir(os.path.join(HERE, NAME)):
         shutil.copy(os.path.join(HERE, NAME, name), os.path.join(directory, "src", name.removesuffix(".txt")))
     crate, kit = proved.Crate(LINE, proved.crates()), proved.kit()
-    why = proved.build_libraries(crate.dependencies)
-    if why:
-        raise proved.NotBuilt(why)
-    made = proved.rattle(
+    error = proved.build_libraries(crate.dependencies)
+    if error:
+        raise proved.NotBuilt(error)
+    result = proved.rattle(
         "build", NAME, directory, "--toolchain", proved.toolchain(), "--backend", "llvm", "-o", f"{NAME}.o", crate=crate
     )
-    proved.require_success(made, NAME)
+    proved.require_success(result, NAME)
     libraries = [f"{kit}/c/libos_c.a", f"{kit}/c/liblibc_c.a"]
-    linked = [
+    link_command = [
         f"{kit}/bin/rattle-link",
         "--target",
         "x86_64-unknown-linux-gnu",
@@ -48,15 +48,15 @@ def build(directory):
         NAME,
         f"{NAME}.o",
     ]
-    proved.require_success(proved.run([*linked, *libraries], directory), NAME)
+    proved.require_success(proved.run([*link_command, *libraries], directory), NAME)
 
 
 def main():
     with tempfile.TemporaryDirectory(prefix="library-bench-") as directory:
         try:
             build(directory)
-        except proved.NotBuilt as why:
-            return str(why)
+        except proved.NotBuilt as error:
+            return str(error)
         os.makedirs(OUT, exist_ok=True)
         shutil.copy(os.path.join(directory, NAME), OUT)
     return 0

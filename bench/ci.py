@@ -47,22 +47,22 @@ class Watch:
     """The processor time of the prover's processes, by parts of CI."""
 
     def __init__(self):
-        self.taken, self.parts, self.ends, self.begun = {}, {}, {}, time.monotonic()
+        self.seconds, self.parts, self.ends, self.start = {}, {}, {}, time.monotonic()
 
-    def look(self):
+    def sample_all(self):
         """Samples each process once."""
         for pid in filter(str.isdigit, os.listdir("/proc")):
             try:
-                self.look_at(pid)
+                self.sample(pid)
             except (OSError, ValueError, IndexError):
                 # The process has ended.
                 pass
 
-    def look_at(self, pid):
+    def sample(self, pid):
         """Records the processor time of a process, if it is the prover's."""
         with open(f"/proc/{pid}/stat", encoding="utf-8", errors="replace") as file:
-            name, _, rest = file.read().rpartition(") ")
-        fields = rest.split()
+            name, _, status = file.read().rpartition(") ")
+        fields = status.split()
         key = pid, fields[19]
         if not name.endswith("(rattle"):
             return
@@ -71,15 +71,15 @@ class Watch:
                 words = file.read().rstrip("\0").split("\0")
             self.parts[key] = part_of(words, os.readlink(f"/proc/{pid}/cwd"))
         if self.parts[key]:
-            self.taken[key] = (int(fields[11]) + int(fields[12])) / TICKS
-            self.ends[self.parts[key]] = time.monotonic() - self.begun
+            self.seconds[key] = (int(fields[11]) + int(fields[12])) / TICKS
+            self.ends[self.parts[key]] = time.monotonic() - self.start
 
     def rows(self):
         """Returns the name of each part, its processor time, and when it ended, in seconds."""
         sums = defaultdict(float)
-        for key, seconds in self.taken.items():
+        for key, seconds in self.seconds.items():
             sums[self.parts[key]] += seconds
-        return [(each, sums[each], self.ends[each]) for each in sorted(sums, key=self.ends.get)]
+        return [(part, sums[part], self.ends[part]) for part in sorted(sums, key=self.ends.get)]
 
 
 def run(log, watch):
@@ -90,31 +90,31 @@ def run(log, watch):
         waiting = threading.Thread(target=ci.wait)
         waiting.start()
         while waiting.is_alive():
-            watch.look()
+            watch.sample_all()
             waiting.join(SECONDS)
     return ci.returncode
 
 
-def main(words):
-    if len(words) != 1:
+def main(arguments):
+    if len(arguments) != 1:
         print("usage: bench/ci.py LOG")
         return 2
-    log, watch = words[0], Watch()
+    log, watch = arguments[0], Watch()
     status = run(log, watch)
-    used = resource.getrusage(resource.RUSAGE_CHILDREN)
-    total, rows = used.ru_utime + used.ru_stime, watch.rows()
-    rows.append(("everything else", total - sum(seconds for _, seconds, _ in rows), time.monotonic() - watch.begun))
-    rows.append(("CI", total, time.monotonic() - watch.begun))
+    usage = resource.getrusage(resource.RUSAGE_CHILDREN)
+    total, rows = usage.ru_utime + usage.ru_stime, watch.rows()
+    rows.append(("everything else", total - sum(seconds for _, seconds, _ in rows), time.monotonic() - watch.start))
+    rows.append(("CI", total, time.monotonic() - watch.start))
     print("| Part | Ended after, minutes | Processor time, minutes |\n|---|---|---|")
     for name, seconds, end in rows:
         print(f"| {name} | {end / 60:.1f} | {seconds / 60:.1f} |")
     with open(log, encoding="utf-8", errors="replace") as file:
         output = file.read()
     print("\n| Script | Elapsed time, minutes | Processor time, minutes |\n|---|---|---|")
-    for name, seconds, used in sorted(SCRIPT.findall(output), key=lambda row: -int(row[2])):
-        print(f"| {name} | {int(seconds) / 60:.1f} | {int(used) / 60:.1f} |")
-    passed = re.search(r"(?m)^rt: ok;.*", output)
-    print(passed[0] if passed else "rt ci did not pass")
+    for name, seconds, usage in sorted(SCRIPT.findall(output), key=lambda row: -int(row[2])):
+        print(f"| {name} | {int(seconds) / 60:.1f} | {int(usage) / 60:.1f} |")
+    match = re.search(r"(?m)^rt: ok;.*", output)
+    print(match[0] if match else "rt ci did not pass")
     print(output.rstrip("\n").rpartition("\n")[2])
     return status
 

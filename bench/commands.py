@@ -67,16 +67,16 @@ def tool_runs(tool, files, data):
     for arguments, stdin in commands:
         name = f"{os.path.basename(tool)} {arguments[0]}"
         yield name, lambda value=arguments, stdin=stdin: processor_timed([tool, *value], stdin, os.devnull)
-    rejected = [tool, "verify", pk, data, files["legacy.sig"]]
-    yield f"{os.path.basename(tool)} verify (legacy)", lambda: rejected_timed(rejected, LEGACY)
+    rejected_command = [tool, "verify", pk, data, files["legacy.sig"]]
+    yield f"{os.path.basename(tool)} verify (legacy)", lambda: rejected_timed(rejected_command, LEGACY)
 
 
 def rejected_timed(command, error):
     """Runs a command that has to fail with this error, and returns its processor time, memory and output."""
-    ended = run(command)
-    if ended.status != 1 or not ended.output.endswith(error):
-        raise SystemExit(f"{command[0]}: exit status {ended.status}, expected 1 and {error!r}: {ended.output}")
-    return ended.processor_seconds, ended.memory, ended.output
+    result = run(command)
+    if result.status != 1 or not result.output.endswith(error):
+        raise SystemExit(f"{command[0]}: exit status {result.status}, expected 1 and {error!r}: {result.output}")
+    return result.processor_seconds, result.memory, result.output
 
 
 def minisign_runs(directory, data):

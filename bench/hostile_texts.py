@@ -40,14 +40,14 @@ VERIFIED = "Signature and comment signature verified\nTrusted comment: t\n"
 SIGNED = ""
 
 
-def with_long_line(text, at, letter=b"A"):
-    """Returns a function that makes files of a given length from a valid file: it appends `letter` repeatedly to line
-    `at`, counted from 1."""
+def with_long_line(text, number, letter=b"A"):
+    """Returns a function that makes files of a given length from a valid file: it appends `letter` repeatedly to the
+    line of this number, counted from 1."""
 
     def of_length(length):
         lines = text.splitlines(keepends=True)
-        lines += [b"\n"] * (at - len(lines))
-        lines[at - 1] = lines[at - 1][:-1] + letter * (length - len(text)) + b"\n"
+        lines += [b"\n"] * (number - len(lines))
+        lines[number - 1] = lines[number - 1][:-1] + letter * (length - len(text)) + b"\n"
         return b"".join(lines)
 
     return of_length
@@ -68,14 +68,14 @@ def public_texts():
 
 def signature_texts():
     """Yields signature files: a name, a function that makes the file, and the message of `verify`."""
-    good = toy.signature_text(DATA)
+    text = toy.signature_text(DATA)
     yield from ((name, repeated(letter), NO_SIGNATURE) for name, letter in ONE_LINE.items())
     yield "only line feeds", repeated(b"\n"), NO_COMMENT_LINE
-    yield "a long third line of spaces", with_long_line(good, 3, b" "), VERIFIED
-    yield "a long third line of letters", with_long_line(good, 3), COMMENT_REJECTED
-    yield "a long fourth line of spaces", with_long_line(good, 4, b" "), VERIFIED
+    yield "a long third line of spaces", with_long_line(text, 3, b" "), VERIFIED
+    yield "a long third line of letters", with_long_line(text, 3), COMMENT_REJECTED
+    yield "a long fourth line of spaces", with_long_line(text, 4, b" "), VERIFIED
     yield "a long fourth line", long_comment_signature, VERIFIED
-    yield "a long fifth line", with_long_line(good, 5), VERIFIED
+    yield "a long fifth line", with_long_line(text, 5), VERIFIED
 
 
 def long_comment_signature(length):
@@ -88,11 +88,11 @@ def long_comment_signature(length):
 
 def secret_texts():
     """Yields secret key files: a name, a function that makes the file, and the message of `sign`."""
-    good = toy.secret_text()
+    text = toy.secret_text()
     yield from ((name, repeated(letter), NO_SECRET_KEY) for name, letter in ONE_LINE.items())
     yield "only line feeds", repeated(b"\n"), toy.TOO_SHORT
     yield "a long second line", long_secret_key, SIGNED
-    yield "a long fourth line", with_long_line(good, 4), SIGNED
+    yield "a long fourth line", with_long_line(text, 4), SIGNED
 
 
 def long_secret_key(length):
@@ -124,33 +124,33 @@ def measure(directory, arguments, message):
 
 
 def main():
-    good = {
+    contents = {
         "key": toy.public_text(),
         "signature": toy.signature_text(DATA),
         "secret": toy.secret_text(),
         "data": DATA,
     }
     failures = []
-    for name, large, make, message, arguments in runs():
-        row = []
+    for name, large_file, make, message, arguments in runs():
+        results = []
         with tempfile.TemporaryDirectory() as directory:
-            for file, text in good.items():
-                with open(os.path.join(directory, file), "wb") as out:
-                    out.write(text)
+            for file, text in contents.items():
+                with open(os.path.join(directory, file), "wb") as stream:
+                    stream.write(text)
             for length in LENGTHS:
                 text = make(length)
-                with open(os.path.join(directory, large), "wb") as out:
-                    out.write(text)
+                with open(os.path.join(directory, large_file), "wb") as stream:
+                    stream.write(text)
                 seconds, memory = measure(directory, arguments, message)
-                row.append((len(text), seconds, memory))
-        shown = "  ".join(f"{seconds:5.2f} s {memory:6.1f} MiB" for _, seconds, memory in row)
-        print(f"{name:48} {shown}", flush=True)
-        for length, _, memory in row:
+                results.append((len(text), seconds, memory))
+        columns = "  ".join(f"{seconds:5.2f} s {memory:6.1f} MiB" for _, seconds, memory in results)
+        print(f"{name:48} {columns}", flush=True)
+        for length, _, memory in results:
             if memory > MAX_MEMORY * length / 2**20 + BASE_MEMORY:
                 failures.append(f"{name}: {memory:.1f} MiB for a file of {length} bytes")
-        for (_, before, _), (_, after, _) in zip(row, row[1:]):
-            if after > MAX_GROWTH * max(before, MIN_SECONDS):
-                failures.append(f"{name}: {before:.2f} s, and {after:.2f} s for twice the size")
+        for (_, seconds, _), (_, next_seconds, _) in zip(results, results[1:]):
+            if next_seconds > MAX_GROWTH * max(seconds, MIN_SECONDS):
+                failures.append(f"{name}: {seconds:.2f} s, and {next_seconds:.2f} s for twice the size")
     if failures:
         raise SystemExit("\n".join(failures))
 

@@ -27,8 +27,8 @@ SYSTEM = "/usr/bin/python3"
 
 def python_with_matplotlib():
     """Returns the path of the system's Python if it has matplotlib, otherwise None."""
-    ran = subprocess.run([SYSTEM, "-c", "import matplotlib"], stderr=subprocess.DEVNULL) if os.path.exists(SYSTEM) else None
-    return SYSTEM if ran is not None and ran.returncode == 0 else None
+    result = subprocess.run([SYSTEM, "-c", "import matplotlib"], stderr=subprocess.DEVNULL) if os.path.exists(SYSTEM) else None
+    return SYSTEM if result is not None and result.returncode == 0 else None
 
 
 if importlib.util.find_spec("matplotlib") is None:
@@ -79,15 +79,15 @@ def expected_key(n_log2):
 
 def measure(n_log2, rounds):
     """Returns a `BestTimes` for each k."""
-    best = {k: BestTimes() for k in STEPS}
+    best_times = {k: BestTimes() for k in STEPS}
     expected = expected_key(n_log2)
     for _ in range(rounds):
         for k in STEPS:
             processor, clock, memory, key = derive(n_log2, k)
             if key != expected:
                 raise SystemExit(f"N 2^{n_log2}, k {k}: the key is {key}, expected {expected}")
-            best[k].add_run(processor, clock, memory)
-    return best
+            best_times[k].add_run(processor, clock, memory)
+    return best_times
 
 
 def rows_memory(n_log2, k):
@@ -95,29 +95,29 @@ def rows_memory(n_log2, k):
     return -(-(1 << n_log2) // k) * ROW_BYTES / MIB
 
 
-def mixing_time(n_log2, best):
+def mixing_time(n_log2, best_times):
     """Returns the time for computing one row from the previous one, in seconds. It follows from the two greatest k,
     whose runs differ only in the number of rows that are computed again."""
     low, high = STEPS[-2:]
-    return (best[high].processor - best[low].processor) / ((high - low) / 2 * (1 << n_log2))
+    return (best_times[high].processor - best_times[low].processor) / ((high - low) / 2 * (1 << n_log2))
 
 
-def time_bound(n_log2, best, k):
+def time_bound(n_log2, best_times, k):
     """Returns an upper bound of the processor time: the time with k = 1, plus the time for computing, on average, (k - 1) / 2 rows
     again for each of the N rows that scrypt reads."""
-    return best[1].processor + mixing_time(n_log2, best) * (k - 1) / 2 * (1 << n_log2)
+    return best_times[1].processor + mixing_time(n_log2, best_times) * (k - 1) / 2 * (1 << n_log2)
 
 
-def show(n_log2, best, base_memory):
+def show(n_log2, best_times, base_memory):
     """Prints the table of one N. Ends the script if a run took more memory than its stored rows, `base_memory` and 1 MiB.
     `base_memory` is the memory of a run that stores only one row."""
-    print(f"N 2^{n_log2}, r 8, p 1; mixing a row takes {mixing_time(n_log2, best) * 1e6:.2f} us")
+    print(f"N 2^{n_log2}, r 8, p 1; mixing a row takes {mixing_time(n_log2, best_times) * 1e6:.2f} us")
     for k in STEPS:
-        run, rows = best[k], rows_memory(n_log2, k)
+        run, rows = best_times[k], rows_memory(n_log2, k)
         print(
-            f"k {k:3}  {run.processor:7.3f} s, {run.processor / best[1].processor:5.2f} times k 1, at most "
-            f"{time_bound(n_log2, best, k) / best[1].processor:5.2f}  elapsed {run.clock:7.3f} s, "
-            f"{run.clock / best[1].clock:5.2f}  {run.memory:7.1f} MiB, rows {rows:7.1f} MiB"
+            f"k {k:3}  {run.processor:7.3f} s, {run.processor / best_times[1].processor:5.2f} times k 1, at most "
+            f"{time_bound(n_log2, best_times, k) / best_times[1].processor:5.2f}  elapsed {run.clock:7.3f} s, "
+            f"{run.clock / best_times[1].clock:5.2f}  {run.memory:7.1f} MiB, rows {rows:7.1f} MiB"
         )
         if run.memory > rows + base_memory + 1:
             raise SystemExit(f"k {k}: {run.memory:.1f} MiB of memory, expected at most {rows + base_memory + 1:.1f} MiB")
@@ -126,13 +126,13 @@ def show(n_log2, best, base_memory):
 def draw(results):
     """Draws the times and the memory against k."""
     figure, (times, memory) = pyplot.subplots(1, 2, figsize=(11, 4.6), layout="constrained")
-    for (n_log2, best), colour, mark in zip(results.items(), ("tab:blue", "tab:orange"), "os"):
+    for (n_log2, best_times), colour, mark in zip(results.items(), ("tab:blue", "tab:orange"), "os"):
         name = f"N $2^{{{n_log2}}}$"
-        ratios = [best[k].processor / best[1].processor for k in STEPS]
-        bounds = [time_bound(n_log2, best, k) / best[1].processor for k in STEPS]
-        times.plot(STEPS, ratios, color=colour, marker=mark, label=f"{name}, k 1: {best[1].processor:.2f} s")
+        ratios = [best_times[k].processor / best_times[1].processor for k in STEPS]
+        bounds = [time_bound(n_log2, best_times, k) / best_times[1].processor for k in STEPS]
+        times.plot(STEPS, ratios, color=colour, marker=mark, label=f"{name}, k 1: {best_times[1].processor:.2f} s")
         times.plot(STEPS, bounds, color=colour, linestyle=":", label=f"{name}, k 1 and the mixings added")
-        memory.plot(STEPS, [best[k].memory for k in STEPS], color=colour, marker=mark, label=f"{name}, measured")
+        memory.plot(STEPS, [best_times[k].memory for k in STEPS], color=colour, marker=mark, label=f"{name}, measured")
         rows = [rows_memory(n_log2, k) for k in STEPS]
         memory.plot(STEPS, rows, color=colour, linestyle=":", label=f"{name}, the kept rows")
     times.set(title="Processor time", ylabel="times that of k 1", yticks=(1, 2, 4, 8, 16))
@@ -154,8 +154,8 @@ def main():
     base_memory = derive(10, 1 << 10)[2]
     print(f"a run that stores one row takes {base_memory:.1f} MiB")
     results = {n_log2: measure(n_log2, count) for n_log2, count in zip((15, 20), rounds)}
-    for n_log2, best in results.items():
-        show(n_log2, best, base_memory)
+    for n_log2, best_times in results.items():
+        show(n_log2, best_times, base_memory)
     draw(results)
 
 

@@ -32,11 +32,11 @@ def run_hashlib():
 
 def main():
     with tempfile.TemporaryDirectory() as directory:
-        typed, pk, sk = (os.path.join(directory, name) for name in ("typed", "key.pk", "key.sk"))
-        with open(typed, "w") as file:
+        password_file, pk, sk = (os.path.join(directory, name) for name in ("typed", "key.pk", "key.sk"))
+        with open(password_file, "w") as file:
             file.write("p\np\n")
         runs = [
-            ("minisign_tool keygen", lambda: processor_timed([TOOL, "keygen", pk, sk], typed)),
+            ("minisign_tool keygen", lambda: processor_timed([TOOL, "keygen", pk, sk], password_file)),
             ("hashlib.scrypt (OpenSSL)", run_hashlib),
             ("library_bench scrypt", lambda: processor_timed([*SCRYPT, "p", "salt", "15", "8", "1"])),
         ]

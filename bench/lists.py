@@ -55,10 +55,10 @@ def make_list(scratch, minisign, name, function):
 def main():
     minisign = installed(needs.minisign)
     with tempfile.TemporaryDirectory() as scratch:
-        ours = os.path.realpath(sys.argv[1]) if len(sys.argv) > 1 else os.path.join(scratch, "out", "minisign-check")
+        program = os.path.realpath(sys.argv[1]) if len(sys.argv) > 1 else os.path.join(scratch, "out", "minisign-check")
         if len(sys.argv) < 2:
             needs.compiler_with_libsodium()
-            static_library.run_make(f"OUT={scratch}/out", ours)
+            static_library.run_make(f"OUT={scratch}/out", program)
         timed([[minisign, "-GW", "-p", "key.pub", "-s", "key.key"]], scratch)
         print("| Job | `minisign -V` and `sha256sum -c` | `minisign-check` | Ratio | Ratio of elapsed times | Peak memory |")
         print("|---|---|---|---|---|---|")
@@ -66,13 +66,15 @@ def main():
                                             ("one", "sha512", "sha512sum", []), ("eight", "sha256", "sha256sum", []),
                                             ("many", "sha256", "sha256sum", []), ("long", "sha256", "sha256sum", ["--listed"])):
             directory = make_list(scratch, minisign, name, function)
-            theirs = [[minisign, "-Vq", "-p", f"{scratch}/key.pub", "-m", LIST], [tool, "--strict", "--ignore-missing", "-c", LIST]]
-            both = ((theirs, their_times := []), ([[ours, "-p", f"{scratch}/key.pub", *flags, LIST]], own_times := []))
+            their_times, own_times, key = [], [], f"{scratch}/key.pub"
+            their_commands = [[minisign, "-Vq", "-p", key, "-m", LIST], [tool, "--strict", "--ignore-missing", "-c", LIST]]
+            own_commands = [[program, "-p", key, *flags, LIST]]
             for _ in range(ROUNDS):
-                for commands, times in both:
+                for commands, times in ((their_commands, their_times), (own_commands, own_times)):
                     times.append(timed(commands, directory))
-            medians = [[statistics.median(run[at] for run in times) for at in range(3)] for times in (their_times, own_times)]
-            ratio, clock = (statistics.median(own[at] / their[at] for their, own in zip(their_times, own_times)) for at in range(2))
+            medians = [[statistics.median(run[index] for run in times) for index in range(3)] for times in (their_times, own_times)]
+            ratio, clock = (statistics.median(own[index] / their[index] for their, own in zip(their_times, own_times))
+                            for index in range(2))
             print(f"| {name}, {tool} | {medians[0][0]:.2f} s | {medians[1][0]:.2f} s | {ratio:.2f} | {clock:.2f} "
                   f"| {medians[0][2]:.1f} and {medians[1][2]:.1f} MiB |", flush=True)
 

@@ -30,9 +30,9 @@ class Trial(wrong_bodies.Trial):
         options = [option for function in sorted(functions) for option in ("--only", function)]
         with tempfile.TemporaryDirectory(prefix="edits-") as results:
             with ProcessorTimes() as times:
-                ran = proved.rattle("check", self.crate, directory, *options, "--allow-holes", "--incremental", results)
+                result = proved.rattle("check", self.crate, directory, *options, "--allow-holes", "--incremental", results)
             self.parts, self.total = costs(modules(results, times)), times.seconds[-1]
-        return ran.stdout
+        return result.stdout
 
 
 def show(trial, group):
@@ -52,7 +52,7 @@ def main(names):
         print("usage: bench/mutant_times.py CRATE[/NAME] ..")
         return 2
     for crate in crates:
-        bodies = [body for body in wrong_bodies.bodies_of(crate, False) if {crate, body.label} & {*names} and not body.why_not]
+        bodies = [body for body in wrong_bodies.bodies_of(crate, False) if {crate, body.label} & {*names} and not body.edit_error]
         trial = Trial(crate)
         error = proved.build_libraries(proved.crates()[crate].dependencies) or trial.lacks_proof(bodies)
         if error:

@@ -60,10 +60,10 @@ class Watch:
     """Records the peak memory of the processes that show the page, until the end of a `with` statement."""
 
     def __init__(self, browser):
-        self.browser, self.processes, self.most, self.is_over = browser, browser.page_processes(), 0, threading.Event()
+        self.browser, self.processes, self.peak_memory, self.is_over = browser, browser.page_processes(), 0, threading.Event()
 
     def __enter__(self):
-        self.thread = threading.Thread(target=self.look)
+        self.thread = threading.Thread(target=self.sample)
         self.thread.start()
         return self
 
@@ -71,9 +71,9 @@ class Watch:
         self.is_over.set()
         self.thread.join()
 
-    def look(self):
+    def sample(self):
         while not self.is_over.wait(0.02):
-            self.most = max(self.most, self.browser.memory(self.processes))
+            self.peak_memory = max(self.peak_memory, self.browser.memory(self.processes))
 
 
 def processor_times(browser):
@@ -90,24 +90,24 @@ def processor_times(browser):
 
 def command_run(command):
     """Runs a command, which has only one thread."""
-    ended = measured(command)
-    return Turn(ended.seconds, ended.processor_seconds, ended.processor_seconds, ended.memory)
+    result = measured(command)
+    return Turn(result.seconds, result.processor_seconds, result.processor_seconds, result.memory)
 
 
 def page_run(browser, pk, data, sig):
     """Runs the page until it shows its verdict."""
     browser.open(f"file://{PAGE}")
     browser.choose_key(pk)
-    before = processor_times(browser)
+    times_before = processor_times(browser)
     with Watch(browser) as watch:
-        begun = time.perf_counter()
+        start = time.perf_counter()
         browser.send("files", data, sig)
         verdict = browser.run(VERDICT)
-        seconds = time.perf_counter() - begun
+        seconds = time.perf_counter() - start
     if verdict != "good":
         raise SystemExit(f"the verdict is {verdict}, expected good: {browser.rows()[0].text!r}")
-    took = [seconds - before.get(thread, 0) for thread, seconds in processor_times(browser).items()]
-    return Turn(seconds, sum(took), max(took), watch.most)
+    thread_seconds = [seconds - times_before.get(thread, 0) for thread, seconds in processor_times(browser).items()]
+    return Turn(seconds, sum(thread_seconds), max(thread_seconds), watch.peak_memory)
 
 
 def empty_memory(browser, directory):
@@ -135,14 +135,15 @@ def in_turns(runs):
 def show(results, empty, size):
     """Prints the times and the memory of each program."""
     reference = [turn.seconds for turn in results["c/minisign -V"][1:]]
-    for name, (first, *turns) in results.items():
+    for name, (first_turn, *turns) in results.items():
         ratios = [turn.seconds / seconds for turn, seconds in zip(turns, reference)]
-        least = min(turn.seconds for turn in turns)
-        more = f", of which an empty page has {empty[name]:.1f}" if name in empty else ""
+        min_seconds = min(turn.seconds for turn in turns)
+        suffix = f", of which an empty page has {empty[name]:.1f}" if name in empty else ""
         processor, busiest = min(turn.processor for turn in turns), min(turn.busiest for turn in turns)
-        print(f"{name:22} {least:6.2f} s  {size / 1e6 / least:5.0f} MB/s  "
+        print(f"{name:22} {min_seconds:6.2f} s  {size / 1e6 / min_seconds:5.0f} MB/s  "
               f"{min(ratios):5.2f} to {max(ratios):.2f} times c/minisign -V, median {statistics.median(ratios):.2f}")
-        print(f"{'':22} {processor:6.2f} s of the processor, {busiest:.2f} s of them in one thread, {first.memory:.1f} MiB{more}")
+        print(f"{'':22} {processor:6.2f} s of the processor, {busiest:.2f} s of them in one thread, "
+              f"{first_turn.memory:.1f} MiB{suffix}")
     print(f"load {os.getloadavg()[0]:.1f}, {os.cpu_count()} processors")
 
 

@@ -52,12 +52,12 @@ class ProcessorTimes:
         """Records the child's processor time at regular intervals."""
         while not self.is_over.wait(SECONDS):
             try:
-                self.look()
+                self.record()
             except (OSError, IndexError):
                 # The child has not started yet, or has ended.
                 pass
 
-    def look(self):
+    def record(self):
         """Records the child's processor time, including that of the processes for which it has waited."""
         children = [f"/proc/self/task/{task}/children" for task in os.listdir("/proc/self/task")]
         pid = "".join(open(path, encoding="utf-8").read() for path in children).split()[0]
@@ -73,9 +73,9 @@ class ProcessorTimes:
 
 def modules(directory, times):
     """Returns the modules that the prover saved below a directory, each with its processor seconds."""
-    files = sorted((os.stat(f"{at}/{name}").st_mtime, name[: -len(".oantt")]) for at, _, names in os.walk(directory)
-                   for name in names if name.endswith(".oantt") and not at.endswith("/records"))
-    return [(name, times.until(end) - times.until(begin)) for (begin, _), (end, name) in zip(files, files[1:])]
+    files = sorted((os.stat(f"{parent}/{name}").st_mtime, name[: -len(".oantt")]) for parent, _, names in os.walk(directory)
+                   for name in names if name.endswith(".oantt") and not parent.endswith("/records"))
+    return [(name, times.until(end) - times.until(start)) for (start, _), (end, name) in zip(files, files[1:])]
 
 
 def costs(modules):
@@ -83,29 +83,29 @@ def costs(modules):
     by_name = defaultdict(Counter)
     for module, seconds in modules:
         path = re.sub(r"^Rattle-\w+-(proofs\.)?", "", module).split(".")
-        at = next((at for at, each in enumerate(path) if each in PARTS), None)
-        by_name["::".join(path[:at])]["itself" if at is None else path[at]] += seconds
+        index = next((index for index, part in enumerate(path) if part in PARTS), None)
+        by_name["::".join(path[:index])]["itself" if index is None else path[index]] += seconds
     return by_name
 
 
-def main(words):
-    rows = next((int(word) for word in words if word.isdigit()), 30)
-    crate, flags = words[0], [word for word in words if word == "--test"]
-    why = proved.build_libraries(proved.crates()[crate].dependencies)
-    if why:
-        print(f"a library is not proved: {why}")
+def main(arguments):
+    rows = next((int(argument) for argument in arguments if argument.isdigit()), 30)
+    crate, flags = arguments[0], [argument for argument in arguments if argument == "--test"]
+    error = proved.build_libraries(proved.crates()[crate].dependencies)
+    if error:
+        print(f"a library is not proved: {error}")
         return 1
     with tempfile.TemporaryDirectory(prefix="proofs-") as scratch:
         with ProcessorTimes() as times:
-            ran = proved.rattle("check", crate, f"{proved.ROOT}/crates/{crate}", "--incremental", scratch, *flags)
+            result = proved.rattle("check", crate, f"{proved.ROOT}/crates/{crate}", "--incremental", scratch, *flags)
         by_name = costs(modules(scratch, times))
     for name, parts in sorted(by_name.items(), key=lambda value: -sum(value[1].values()))[:rows]:
-        shown = ", ".join(f"{part} {seconds:.1f}" for part, seconds in parts.most_common(4) if seconds >= 0.1)
-        print(f"{sum(parts.values()):7.1f}  {name}: {shown}")
+        costs_of_parts = ", ".join(f"{part} {seconds:.1f}" for part, seconds in parts.most_common(4) if seconds >= 0.1)
+        print(f"{sum(parts.values()):7.1f}  {name}: {costs_of_parts}")
     total = sum((parts for parts in by_name.values()), Counter())
     print(f"{sum(total.values()):7.1f}  total: {', '.join(f'{part} {seconds:.0f}' for part, seconds in total.most_common(8))}")
-    print(proved.first_error(ran.stdout))
-    return ran.returncode
+    print(proved.first_error(result.stdout))
+    return result.returncode
 
 
 if __name__ == "__main__":

@@ -50,14 +50,14 @@ call = of_library(ctypes.CDLL(sys.argv[4]).crypto_scrypt)
 """
 
 
-def ours(n_log2):
+def run_library(n_log2):
     """Derives a key with library_bench. Returns the seconds of the call, the memory of the process, and the key."""
     seconds, memory, output = processor_timed([*SCRYPT, PASSWORD, SALT, n_log2, "8", "1"])
     microseconds, key = output.split()
     return seconds if CPU else int(microseconds) / 1e6, memory, key
 
 
-def theirs(script, library, n_log2):
+def run_script(script, library, n_log2):
     """Derives a key with a Python script. Returns the seconds of the call, the memory of the process, and the key."""
     command = [sys.executable, "-S", "-c", COMMON + script + CALL, PASSWORD, SALT, n_log2, library]
     _, memory, output = timed(command)
@@ -66,17 +66,17 @@ def theirs(script, library, n_log2):
 
 
 def main():
-    others = [("OpenSSL (hashlib.scrypt)", OPENSSL, "")]
-    for name, short, package, script in (
+    implementations = [("OpenSSL (hashlib.scrypt)", OPENSSL, "")]
+    for name, library_name, package, script in (
         ("libscrypt-kdf", "scrypt-kdf", "libscrypt-kdf1", LIBSCRYPT),
         ("libsodium", "sodium", "libsodium23", LIBSODIUM),
     ):
-        library = installed(needs.need, lambda short=short: ctypes.util.find_library(short), name, package)
-        others.insert(0, (name, script, library))
+        library = installed(needs.need, lambda library_name=library_name: ctypes.util.find_library(library_name), name, package)
+        implementations.insert(0, (name, script, library))
     for n_log2, rounds in (("15", 25), ("20", 5)):
-        runs = [("minisign_kdf", lambda: ours(n_log2))]
-        for name, script, library in others:
-            runs.append((name, lambda script=script, library=library: theirs(script, library, n_log2)))
+        runs = [("minisign_kdf", lambda: run_library(n_log2))]
+        for name, script, library in implementations:
+            runs.append((name, lambda script=script, library=library: run_script(script, library, n_log2)))
         if len({run()[2] for _, run in runs}) != 1:
             raise SystemExit(f"the keys at N 2^{n_log2} differ")
         print(f"N 2^{n_log2}, r 8, p 1")

@@ -7,7 +7,8 @@ import time
 from dataclasses import dataclass
 
 HERE = os.path.dirname(os.path.realpath(__file__))
-# The benchmarks use modules of the tests: for keys of the toy scheme, and for finding and installing programs.
+# The benchmarks use modules of the tests: for keys of the toy scheme, and for finding and installing programs. Some benchmarks
+# import `toy` from this module.
 sys.path[:0] = [os.path.join(HERE, "..", "tests", name) for name in ("shared", "command_line")]
 import needs
 import toy
@@ -27,8 +28,8 @@ def installed(find, *arguments):
     """Returns the result of a function of `needs`. Ends the script if the program is missing and cannot be installed."""
     try:
         return find(*arguments)
-    except needs.Missing as why:
-        raise SystemExit(f"FAILED: {why}") from why
+    except needs.Missing as error:
+        raise SystemExit(f"FAILED: {error}") from error
 
 
 def peak_memory(process):
@@ -96,11 +97,11 @@ def processor_timed(command, stdin_path=None, stdout_path=None):
 
 def compare(runs, rounds=3):
     """Times the runs, which take turns. Prints the minimum time of each and its ratio to that of the last run in the list."""
-    best = {name: (float("inf"), 0.0) for name, _ in runs}
+    best_results = {name: (float("inf"), 0.0) for name, _ in runs}
     for _ in range(rounds):
         for name, run in runs:
             seconds, memory, _ = run()
-            best[name] = (min(best[name][0], seconds), max(best[name][1], memory))
-    base = best[runs[-1][0]][0]
-    for name, (seconds, memory) in best.items():
+            best_results[name] = (min(best_results[name][0], seconds), max(best_results[name][1], memory))
+    base = best_results[runs[-1][0]][0]
+    for name, (seconds, memory) in best_results.items():
         print(f"{name:32} {seconds:8.2f} s  {seconds / base:5.2f} times the last  {memory:8.1f} MiB")

@@ -28,16 +28,16 @@ TURNS = 7
 PASSWORD = "a password\n"
 
 
-def called(program, *words):
+def run_call(program, *words):
     """Returns the elapsed and processor seconds of one call."""
     result = subprocess.run([program, *words], stdout=subprocess.PIPE, check=True)
     return tuple(map(float, result.stdout.split()))
 
 
-def seconds_of(typed, *command):
+def seconds_of(password_file, *command):
     """Returns the elapsed and processor seconds of a run of a program."""
-    ended = measured(command, typed)
-    return ended.seconds, ended.processor_seconds
+    result = measured(command, password_file)
+    return result.seconds, result.processor_seconds
 
 
 def build(directory):
@@ -51,28 +51,34 @@ def build(directory):
 
 
 def jobs(directory):
-    """Returns pairs of runs, ours and the other, by name."""
+    """Returns pairs of runs by name: a run of this library or program, and one of libsodium or Minisign's own program."""
     minisign = installed(needs.minisign)
-    calls, ours = build(directory)
+    calls, program = build(directory)
     names = ("sealed.key", "sealed.pub", "made.key", "made.pub", "data", "typed")
-    key, public, made, made_public, data, typed = (os.path.join(directory, name) for name in names)
-    with open(typed, "w", encoding="ascii") as file:
+    key, public, new_key, new_public, data, password_file = (os.path.join(directory, name) for name in names)
+    with open(password_file, "w", encoding="ascii") as file:
         file.write(PASSWORD * 2)
     with open(data, "wb") as file:
         file.write(b"data\n")
-    measured([minisign, "-G", "-p", public, "-s", key], typed)
-    opening, making = ("-S", "-s", key, "-m", data), ("-G", "-f", "-p", made_public, "-s", made)
+    measured([minisign, "-G", "-p", public, "-s", key], password_file)
+    opening, making = ("-S", "-s", key, "-m", data), ("-G", "-f", "-p", new_public, "-s", new_key)
     return {
         "a call that makes a key, and libsodium's derivation": (
-            lambda: called(calls, "make"),
-            lambda: called(calls, "sodium"),
+            lambda: run_call(calls, "make"),
+            lambda: run_call(calls, "sodium"),
         ),
         "a call that decrypts a key, and libsodium's derivation": (
-            lambda: called(calls, "open", key),
-            lambda: called(calls, "sodium"),
+            lambda: run_call(calls, "open", key),
+            lambda: run_call(calls, "sodium"),
         ),
-        "`-S`, which decrypts a key": (lambda: seconds_of(typed, ours, *opening), lambda: seconds_of(typed, minisign, *opening)),
-        "`-G`, which makes a key": (lambda: seconds_of(typed, ours, *making), lambda: seconds_of(typed, minisign, *making)),
+        "`-S`, which decrypts a key": (
+            lambda: seconds_of(password_file, program, *opening),
+            lambda: seconds_of(password_file, minisign, *opening),
+        ),
+        "`-G`, which makes a key": (
+            lambda: seconds_of(password_file, program, *making),
+            lambda: seconds_of(password_file, minisign, *making),
+        ),
     }
 
 
@@ -86,12 +92,13 @@ def main():
                 times[name].append((ours(), ours(), theirs(), theirs()))
     print("| Job | Ours | Theirs | Ratio of elapsed and of processor time | Ratios of first runs |")
     print("|---|---|---|---|---|")
-    for name, taken in times.items():
-        took = [statistics.median(turn[at][1] for turn in taken) for at in (1, 3)]
-        ratios = [statistics.median(turn[ours][at] / turn[theirs][at] for turn in taken)
-                  for ours, theirs in ((1, 3), (0, 2)) for at in (0, 1)]
+    for name, turns_of_job in times.items():
+        medians = [statistics.median(turn[index][1] for turn in turns_of_job) for index in (1, 3)]
+        ratios = [statistics.median(turn[our_run][index] / turn[their_run][index] for turn in turns_of_job)
+                  for our_run, their_run in ((1, 3), (0, 2)) for index in (0, 1)]
         print(
-            f"| {name} | {took[0]:.2f} s | {took[1]:.2f} s | {ratios[0]:.2f}, {ratios[1]:.2f} | {ratios[2]:.2f}, {ratios[3]:.2f} |"
+            f"| {name} | {medians[0]:.2f} s | {medians[1]:.2f} s | {ratios[0]:.2f}, {ratios[1]:.2f} "
+            f"| {ratios[2]:.2f}, {ratios[3]:.2f} |"
         )
 
 

@@ -17,6 +17,7 @@ Parts of these files are written by hand: their heads, code that several calls s
 Needs Python 3.9 or later and clang.
 """
 
+import itertools
 import re
 import sys
 import textwrap
@@ -24,7 +25,7 @@ import textwrap
 import boundary
 import sources
 from c_header import FILE as HEADER, LIST_HEADER, all_headers, parsed
-from sources import Unfit
+from sources import SourceError
 
 RUST, RUST_SYS = "bindings/rust/src/raw/header.rs", "bindings/rust-sys/src/header.rs"
 GO_ERRORS = "bindings/go/errors.go"
@@ -35,11 +36,11 @@ PYTHON_ERRORS = "bindings/python/src/minisign_proved/errors.py"
 PYTHON = "bindings/python/src/minisign_proved/_header.py"
 
 
-def by_hand(path, begin, end):
+def hand_written_part(path, begin, end):
     """Returns a hand-written part of a file: from the text `begin` to the end of the text `end`."""
     text = sources.read(path)
     if end not in text.partition(begin)[2]:
-        raise Unfit(f"{path} lacks {begin!r}, or after it {end!r}")
+        raise SourceError(f"{path} lacks {begin!r}, or after it {end!r}")
     return begin + text.partition(begin)[2].partition(end)[0] + end
 
 
@@ -76,11 +77,11 @@ def role_of(call, parameter, after, header):
         return ("array" if parameter.const else "new array"), 1
     if parameter.star and parameter.kind in ("uint8_t", "char"):
         if not after or after[0].kind != "size_t" or after[0].star:
-            raise Unfit(f"{call.name}: {parameter.name}, which is not followed by a length")
+            raise SourceError(f"{call.name}: {parameter.name}, which is not followed by a length")
         if parameter.const:
             return "bytes", 2
         if "room" not in parameter.roles:
-            raise Unfit(f"{call.name}: {parameter.name} has no role `room`")
+            raise SourceError(f"{call.name}: {parameter.name} has no role `room`")
         if [each.kind + each.star for each in after] == ["size_t", "size_t*"]:
             return "text", 3
         return ("short text" if call.answer == "size_t" else "message"), 2
@@ -103,19 +104,19 @@ def buffer_size_of(call, parameter, header, length_of, field_of):
     parameters."""
     constants = {name for name, *_ in [*header.numbers, *header.sizes]}
     lengths = {length.name: bytes.name for bytes, length in boundary.lengths([*header.flat_parameters(call)]) if length}
-    lengths |= {name.rpartition("->")[2]: of.rpartition("->")[2] for name, of in lengths.items()}
+    lengths |= {name.rpartition("->")[2]: bytes_name.rpartition("->")[2] for name, bytes_name in lengths.items()}
 
     def term(word):
         if word in lengths:
             return length_of(lengths[word])
         if not word.isdigit() and word not in constants and "." not in word:
-            raise Unfit(f"{call.name}: the role of {parameter.name} names {word}, which is unknown")
+            raise SourceError(f"{call.name}: the role of {parameter.name} names {word}, which is unknown")
         return field_of(word) if "." in word else word
 
     return " + ".join(term(word) for word in parameter.roles.get("room", "0").split(" + "))
 
 
-def in_words(call, header, table, kind_of, length_of, field_of=str):
+def columns_of(call, header, table, kind_of, length_of, field_of=str):
     """Returns five lists for the function that makes a call, from the rows of a table for its parameters: the function's own
     parameters, the lines before the call, the arguments of the call, and the types and the values of the results. For a struct
     of parts, the function has a parameter for each part."""
@@ -144,7 +145,7 @@ def in_words(call, header, table, kind_of, length_of, field_of=str):
     return columns
 
 
-# The tables have a row for each kind of parameter, with the five columns that in_words returns.
+# The tables have a row for each kind of parameter, with the five columns that columns_of returns.
 
 # ---- Python, and the errors of Go ----
 
@@ -176,7 +177,7 @@ PYTHON_ROLES = {
 def ctype(kind, header):
     """Returns a type of the header in ctypes."""
     if kind not in C_TYPES and kind not in header.structs and not kind.startswith("enum "):
-        raise Unfit(f"the type {kind}")
+        raise SourceError(f"the type {kind}")
     return name_of(kind) if kind in header.structs else C_TYPES.get(kind, "c_uint32")
 
 
@@ -233,7 +234,7 @@ def docstring(text, indent):
 
 
 def python_errors(header):
-    text = by_hand(PYTHON_ERRORS, "# SPDX", "    line = 0\n\n\n")
+    text = hand_written_part(PYTHON_ERRORS, "# SPDX", "    line = 0\n\n\n")
     for comment, name, number in header.errors:
         text += f"class {name_of(name)}(MinisignError):\n{docstring(comment, '    ')}\n    number = {number}\n\n\n"
     text += "BY_NUMBER: \"dict[int, type[MinisignError]]\" = {\n"
@@ -246,7 +247,8 @@ def python_errors(header):
 
 def python_header(header):
     numbers = [(name, value.upper().replace("0X", "0x")) for name, value in header.numbers]
-    text = by_hand(PYTHON, "# SPDX", "Union\n\n") + "".join(f"{name} = {value}\n" for name, value in numbers + header.texts)
+    text = hand_written_part(PYTHON, "# SPDX", "Union\n\n")
+    text += "".join(f"{name} = {value}\n" for name, value in numbers + header.texts)
     text += "# Sizes without the lengths of the comments, which the caller adds.\n"
     text += "".join(f"{size.name} = {size.number}\n" for size in header.sizes)
     for members in (members for enum, members in header.enums.items() if enum != "error"):
@@ -258,7 +260,7 @@ def python_header(header):
         ]
         inside = "".join(f'        ("{field.name}", {kind}),\n' for field, kind in zip(fields, kinds))
         text += f"\n\nclass {name_of(struct)}(Structure):\n    _fields_ = [\n{inside}    ]\n"
-    text += by_hand(PYTHON, "\n\n# Bytes that a call only reads.", "self._library = library\n")
+    text += hand_written_part(PYTHON, "\n\n# Bytes that a call only reads.", "self._library = library\n")
     for call in header.calls:
         parameters = ", ".join(argument(parameter, header) for parameter in call.parameters) + "," * (len(call.parameters) == 1)
         result = "error" if call.answer == "enum minisign_error" else ctype(call.answer, header)
@@ -271,7 +273,7 @@ def python_header(header):
 
 def python_call(call, header):
     """Returns a method that makes a call and returns its results."""
-    parameters, before, arguments, types, results = in_words(call, header, PYTHON_ROLES, ctype, "len({})".format)
+    parameters, before, arguments, types, results = columns_of(call, header, PYTHON_ROLES, ctype, "len({})".format)
     lines = [f"self._library.{call.name}({', '.join(arguments)})"]
     if call.answer == "size_t":
         lines[0] = f"length = {lines[0]}"
@@ -287,9 +289,10 @@ def python_call(call, header):
 def go_errors(header):
     width = max(len("Err" + name_of(error.name)) for error in header.errors)
     rows = [f"\t{'Err' + name_of(error.name):{width}} = Error(C.MINISIGN_{error.name})\n" for error in header.errors]
-    named = [f"\t{'Err' + name_of(error.name) + ':':{width + 1}} \"{error.name}\",\n" for error in header.errors]
+    names_by_number = [f"\t{'Err' + name_of(error.name) + ':':{width + 1}} \"{error.name}\",\n" for error in header.errors]
     names = "// Names are those of minisign.h, without MINISIGN_.\nvar names = map[Error]string{\n"
-    return f"{by_hand(GO_ERRORS, '// SPDX', 'const (' + chr(10))}{''.join(rows)})\n\n{names}{''.join(named)}}}\n"
+    begin = hand_written_part(GO_ERRORS, "// SPDX", "const (\n")
+    return f"{begin}{''.join(rows)})\n\n{names}{''.join(names_by_number)}}}\n"
 
 
 # ---- Go ----
@@ -312,6 +315,7 @@ GO_ROLES = {
     "new array among parts": ("{name} *[{count}]byte", "(*C.uint8_t)(&{name}[0])"),
     "bytes among parts": ("{name} []byte", "pointer({name}), C.size_t(len({name}))"),
 }
+GO_COLUMNS = 120
 # Calls for which no Go function is generated, because raw.go has one or none is needed.
 GO_WITHOUT_FUNCTION = (*WITHOUT_FUNCTION, *LISTS_BY_HAND, "minisign_version", "minisign_error_text")
 
@@ -342,9 +346,25 @@ def go_flat(call, header):
     )
 
 
+def go_wrapped(line):
+    """Returns a line of Go. If it is too long, the parameters or arguments in its first parentheses get lines of their
+    own, in the layout of gofmt."""
+    if len(line) <= GO_COLUMNS:
+        return line
+    begin, _, rest = line.partition("(")
+    depths = itertools.accumulate((letter == "(") - (letter == ")") for letter in rest)
+    end = next(place for place, depth in enumerate(depths) if depth < 0)
+    indent = "\t" * (begin.count("\t") + 1)
+    # A null character is not a place for a line break.
+    items = rest[:end].replace(" ", "\0").replace(",\0", ", ")
+    lines = textwrap.wrap(items + ",", GO_COLUMNS, initial_indent=indent, subsequent_indent=indent, expand_tabs=False)
+    inside = "".join(f"{each}\n" for each in lines).replace("\0", " ")
+    return f"{begin}(\n{inside}{indent[1:]}{rest[end:]}"
+
+
 def go_call(call, header):
     """Returns a Go function that makes a call, and returns its results and its error."""
-    parameters, before, arguments, types, results = in_words(
+    parameters, before, arguments, types, results = columns_of(
         call, header, GO_ROLES, lambda kind, _: kind.replace("enum ", "enum_"), "len({})".format
     )
     is_flat = any(parameter.kind in header.in_parts for parameter in call.parameters)
@@ -356,14 +376,15 @@ def go_call(call, header):
     elif call.answer != "void" and not results:
         lines, types = [f"return {expression}"], [f"C.{call.answer.removeprefix('enum ')}"]
     elif call.answer != "void":
-        raise Unfit(f"{call.name} returns a number and writes something: add it to GO_WITHOUT_FUNCTION")
+        raise SourceError(f"{call.name} returns a number and writes something: add it to GO_WITHOUT_FUNCTION")
     else:
         lines = [expression, *([f"return {', '.join(results)}"] if results else [])]
     result = f" ({', '.join(types)})" if len(types) > 1 else "".join(f" {kind}" for kind in types)
     inside = "".join(f"\t{line}\n" for line in before + lines)
     text = f"\nfunc call{name_of(call.name)}({', '.join(parameters)}){result} {{\n{inside}}}\n"
     # gofmt writes no spaces around an operator in brackets.
-    return re.sub(r"(?<=[)\d]) \+ (?=len|signature)", "+", named(text, header))
+    text = re.sub(r"(?<=[)\d]) \+ (?=len|signature)", "+", with_language_names(text, header))
+    return "\n".join(map(go_wrapped, text.split("\n")))
 
 
 def go_header(header):
@@ -373,14 +394,14 @@ def go_header(header):
         for call in calls
         if any(parameter.kind in header.in_parts for parameter in call.parameters)
     )
-    text = by_hand(GO, "// SPDX", "#include <minisign_list.h>\n") + f"\n{flat}*/\nimport \"C\"\n"
-    return text + by_hand(GO, "\n// The calls of minisign.h", "1\n}\n") + "".join(go_call(call, header) for call in calls)
+    text = hand_written_part(GO, "// SPDX", "#include <minisign_list.h>\n") + f"\n{flat}*/\nimport \"C\"\n"
+    return text + hand_written_part(GO, "\n// The calls of minisign.h", "1\n}\n") + "".join(go_call(call, header) for call in calls)
 
 
 # ---- JavaScript ----
 
 JAVASCRIPT_ROLES = {
-    "password": ("{name}", "", "{name} === null ? 0 : 1, {name} ?? NOTHING, BigInt({name}?.length ?? 0)", "", ""),
+    "password": ("{name}", "", "{name} === null ? 0 : 1, {name} ?? NO_BYTES, BigInt({name}?.length ?? 0)", "", ""),
     "array": ("{name}", "", "{name}", "", ""),
     "bytes": ("{name}", "", "{name}, BigInt({name}.length)", "", ""),
     "text": (
@@ -388,7 +409,7 @@ JAVASCRIPT_ROLES = {
         "const {name} = new Uint8Array({room});\nconst length = new Uint8Array(8);",
         "{name}, BigInt({name}.length), length",
         "",
-        "cut({name}, length)",
+        "decodeAndClear({name}, length)",
     ),
     "message": ("", "const {name} = new Uint8Array({room});", "{name}, BigInt({name}.length)", "", "{name}"),
     "struct": ("{name}", "", "{name}", "", ""),
@@ -422,15 +443,15 @@ READ_FIELDS = {
 }
 
 
-def places_of(fields):
+def offsets_of(fields):
     """Yields the offset of each field of a struct without pointers, and the size of the struct."""
-    at, widest = 0, 1
+    offset, widest = 0, 1
     for field in fields:
         width = NUMBER_SIZES[field.kind]
-        at, widest = (at + width - 1) // width * width, max(widest, width)
-        yield field.name, at
-        at += width * int(field.count or 1)
-    yield "size", (at + widest - 1) // widest * widest
+        offset, widest = (offset + width - 1) // width * width, max(widest, width)
+        yield field.name, offset
+        offset += width * int(field.count or 1)
+    yield "size", (offset + widest - 1) // widest * widest
 
 
 def javascript_line(begin, words, end):
@@ -441,13 +462,13 @@ def javascript_line(begin, words, end):
     return f"{begin}\n" + "".join(f"{indent}  {item},\n" for item in items_of(words)) + f"{indent}{end}\n"
 
 
-def named(text, header):
+def with_language_names(text, header):
     """Replaces names of the header by those of JavaScript and Go, and sizes by numbers."""
     for size in header.sizes:
         text = text.replace(f"{size.name} + ", f"{size.number} + ")
     return re.sub(
         r"(?<![\w.\"])(?!enum_)[a-z]+(?:_[a-z0-9]+)+\b",
-        lambda found: re.sub("_(.)", lambda letter: letter[1].upper(), found[0]),
+        lambda match: re.sub("_(.)", lambda letter: letter[1].upper(), match[0]),
         text,
     )
 
@@ -455,19 +476,19 @@ def named(text, header):
 def javascript_call(call, header):
     """Returns a JavaScript method that makes a call and returns its results."""
     size_of = lambda kind, _: f"STRUCTS.{kind.removeprefix('minisign_')}.size"
-    parameters, before, arguments, _, results = in_words(call, header, JAVASCRIPT_ROLES, size_of, "{}.length".format)
+    parameters, before, arguments, _, results = columns_of(call, header, JAVASCRIPT_ROLES, size_of, "{}.length".format)
     name = re.sub("_(.)", lambda letter: letter[1].upper(), call.name.removeprefix("minisign_"))
     text = javascript_line(f"  async {name}(", ", ".join(parameters), ") {")
     for line in (line for words in before for line in words.split("\n")):
         begin, _, words = line.rpartition("(")
-        text += javascript_line(f"    {begin}(", named(words.removesuffix(");"), header), ");")
-    text += javascript_line("    await this.make(", ", ".join([f'"{call.name}"', *arguments]), ");")
+        text += javascript_line(f"    {begin}(", with_language_names(words.removesuffix(");"), header), ");")
+    text += javascript_line("    await this.call(", ", ".join([f'"{call.name}"', *arguments]), ");")
     text += f"    return {', '.join(results)};\n" if results else ""
-    return named(text, header) + "  }\n"
+    return with_language_names(text, header) + "  }\n"
 
 
 def javascript_header(header):
-    text = by_hand(JAVASCRIPT, "// SPDX", "loaded.js\";\n\n")
+    text = hand_written_part(JAVASCRIPT, "// SPDX", "library_loader.js\";\n\n")
     text += "".join(
         f"export const {name} = {value}{'n' * value.startswith('0x')};\n"
         for name, value in [*header.numbers, *header.texts]
@@ -476,10 +497,10 @@ def javascript_header(header):
     for struct in JAVASCRIPT_STRUCTS:
         fields = header.structs[f"minisign_{struct}"]
         lengths = [*(NUMBER_SIZES[field.kind] * int(field.count or 1) for field in fields), None]
-        rows = [f"{name}: {place}" if length is None else f"{name}: [{place}, {length}]"
-                for (name, place), length in zip(places_of(fields), lengths)]
+        rows = [f"{name}: {offset}" if length is None else f"{name}: [{offset}, {length}]"
+                for (name, offset), length in zip(offsets_of(fields), lengths)]
         text += f"  {struct}: {{\n" + "".join(f"    {row},\n" for row in rows) + "  },\n"
-    text += "};\n" + by_hand(JAVASCRIPT, "\n// An instance of", "giveBack(instance);\n    }\n  }\n")
+    text += "};\n" + hand_written_part(JAVASCRIPT, "\n// An instance of", "returnInstance(instance);\n    }\n  }\n")
     calls = {call.name.removeprefix("minisign_"): call for call in header.calls}
     return text + "".join(f"\n{javascript_call(calls[name], header)}" for name in SIGNING_CALLS) + "}\n"
 
@@ -487,14 +508,14 @@ def javascript_header(header):
 def javascript_calls(header):
     """Returns calls.js, with its generated part: answers and structs."""
     begin, _, rest = sources.read(JAVASCRIPT_CALLS).partition(JAVASCRIPT_MADE)
-    places = {
-        struct: dict(places_of(header.structs[f"minisign_{struct}"]))
+    offsets = {
+        struct: dict(offsets_of(header.structs[f"minisign_{struct}"]))
         for struct in ("state", "list", "public_key", *READ_FIELDS)
     }
     generated = "".join(f"const {member.name} = {member.number:#x};\n" for member in header.enums["answer"])
     generated += "".join(f"const {member.name} = {member.number};\n" for member in header.enums["hash"])
     generated += "\n// The sizes of the structs, and the offsets of the fields that are read.\n"
-    for struct, fields in places.items():
+    for struct, fields in offsets.items():
         generated += f"const {struct.removeprefix('public_').upper()}_BYTES = {fields['size']};\n"
         if struct in READ_FIELDS:
             read = [f"{name}: {fields[name]}" for name in READ_FIELDS[struct]]
@@ -509,12 +530,12 @@ def javascript_calls(header):
 
 def javascript_errors(header):
     rows = "".join(f"  {error.name}: {error.number},\n" for error in header.errors)
-    return f"{by_hand(JAVASCRIPT_ERRORS, '// SPDX', 'Object.freeze({' + chr(10))}{rows}}});\n"
+    return f"{hand_written_part(JAVASCRIPT_ERRORS, '// SPDX', 'Object.freeze({' + chr(10))}{rows}}});\n"
 
 
 def javascript_types(header):
     rows = "".join(f'\n  | "{error.name}"' for error in header.errors)
-    return f"{by_hand(JAVASCRIPT_TYPES, '// SPDX', 'export type ErrorCode =')}{rows};\n"
+    return f"{hand_written_part(JAVASCRIPT_TYPES, '// SPDX', 'export type ErrorCode =')}{rows};\n"
 
 
 # ---- Rust ----
@@ -562,7 +583,7 @@ def rust_type(kind, header):
     return name_of(kind) if kind in header.structs else RUST_TYPES.get(kind, "u32")
 
 
-def in_one(values):
+def tuple_of(values):
     """Joins values: several of them become a tuple."""
     return f"({', '.join(values)})" if len(values) > 1 else "".join(values)
 
@@ -595,12 +616,12 @@ def rust_unsafe(before, name, arguments, after):
 
 def rust_call(call, header):
     """Returns a Rust function that makes a call and returns its results."""
-    parameters, before, arguments, types, results = in_words(
+    parameters, before, arguments, types, results = columns_of(
         call, header, RUST_ROLES, rust_type, "{}.len()".format, "{} as usize".format
     )
     arguments = [word for words in arguments for word in ([words] if "\n" in words else words.split(", "))]
     call_between = lambda before, after: rust_unsafe(before, f"sys::{call.name}", arguments, after)
-    result, value = in_one(types) or "()", in_one(results)
+    result, value = tuple_of(types) or "()", tuple_of(results)
     result_type = {"void": result, "uint32_t": "u32"}.get(call.answer, f"Result<{result}, Reason>")
     if call.answer == "enum minisign_error":
         ok_value = value if result == "String" else f"Ok({value})"
@@ -649,14 +670,14 @@ def rust_declaration(call, header):
     """Returns the declaration of a call in Rust."""
     parameters = []
     for parameter in call.parameters:
-        of, array, pointer = (
+        target, array, pointer = (
             rust_sys_type(parameter.kind, header),
             "&" if parameter.const else "&mut ",
             "*const " if parameter.const else "*mut ",
         )
         parameters.append(
             f"{parameter.name}: "
-            + (f"{array}[{of}; {parameter.count}]" if parameter.count else f"{pointer}{of}" if parameter.star else of)
+            + (f"{array}[{target}; {parameter.count}]" if parameter.count else f"{pointer}{target}" if parameter.star else target)
         )
     result = {"void": ");", "size_t": ") -> usize;"}.get(call.answer, ") -> u32;")
     return in_lines(" " * 4, f"pub fn {call.name}(", parameters, result) + "\n"
@@ -675,16 +696,16 @@ def rust_constants(header):
 
 
 def rust_sys_header(header):
-    text = by_hand(RUST_SYS, "// SPDX", "non_camel_case_types)]\n") + "\npub const MINISIGN_OK: u32 = 0;\n"
+    text = hand_written_part(RUST_SYS, "// SPDX", "non_camel_case_types)]\n") + "\npub const MINISIGN_OK: u32 = 0;\n"
     text += "".join(f"pub const MINISIGN_{error.name}: u32 = {error.number};\n" for error in header.errors) + "\n"
     text += "".join(f"pub const MINISIGN_{name}: {kind} = {value};\n" for name, kind, value in rust_constants(header))
     text += "".join(rust_struct(struct, fields, header) for struct, fields in header.structs.items())
     text += "\nextern \"C\" {\n" + "".join(rust_declaration(call, header) for call in header.calls) + "}\n"
-    return text + by_hand(RUST_SYS, "\n/// Writes zeros", "write_volatile(byte, 0) });\n}\n")
+    return text + hand_written_part(RUST_SYS, "\n/// Writes zeros", "write_volatile(byte, 0) });\n}\n")
 
 
 def rust_header(header):
-    text = by_hand(RUST, "// SPDX", "use minisign_proved_sys as sys;\n")
+    text = hand_written_part(RUST, "// SPDX", "use minisign_proved_sys as sys;\n")
     text += "\nimpl Reason {\n    /// No error.\n    pub const OK: Reason = Reason(0);\n"
     for comment, name, number in header.errors:
         text += "".join(f"    /// {line}\n" for line in textwrap.wrap(comment, RUST_WIDTH - 8))
@@ -701,7 +722,7 @@ def rust_header(header):
         + "\n"
     )
     text += "".join(f"pub type {name_of(struct)} = sys::{struct};\n" for struct in header.structs)
-    text += by_hand(RUST, "\n/// Returns an error unless", "Reason::NOT_UTF8)\n}\n")
+    text += hand_written_part(RUST, "\n/// Returns an error unless", "Reason::NOT_UTF8)\n}\n")
     return text + "".join(rust_call(call, header) for call in header.calls if call.name not in (*WITHOUT_FUNCTION, *LISTS_BY_HAND))
 
 

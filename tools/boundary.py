@@ -9,7 +9,7 @@ exports of the crate `minisign_c`.
 import re
 import textwrap
 
-from sources import Unfit, read
+from sources import SourceError, read
 
 FILE, POINTERS = "c/library/boundary.c", "c/library/portable/pointers.c"
 # The call that is written by hand, at the end of the head of boundary.c.
@@ -23,7 +23,7 @@ def proved_calls(header):
     return [call for call in header.calls if call.name != HAND_WRITTEN_CALL]
 
 
-def plain(kind):
+def plain_type(kind):
     """Returns a type as the proved calls declare it: enums are numbers, and characters are bytes."""
     return "uint32_t" if kind.startswith("enum ") else "uint8_t" if kind == "char" else kind
 
@@ -32,7 +32,7 @@ def plain_parameter(parameter):
     """Returns the type of a parameter as the proved calls declare it."""
     return (
         parameter.const
-        + ("uint8_t" if parameter.kind == "void" else plain(parameter.kind))
+        + ("uint8_t" if parameter.kind == "void" else plain_type(parameter.kind))
         + (" *" if parameter.star or parameter.count else "")
     )
 
@@ -51,11 +51,12 @@ def is_struct(parameter):
 
 
 def arguments(parameters):
-    """Yields the arguments of the proved call. A pointer with a length may be NULL if the length is 0. The proved call accepts no NULL,
-    so a macro in the head of boundary.c then passes the address of an empty buffer."""
-    for each, length in lengths(parameters):
-        form = "READ" if each.const else "WORDS" if each.kind == "uint32_t" else "ENTRIES" if is_struct(each) else "WRITTEN"
-        yield f"{form}({each.name}, {length.name})" if length else each.name
+    """Yields the arguments of the proved call. A pointer with a length may be NULL if the length is 0. The proved call
+    accepts no NULL, so a macro in the head of boundary.c then passes the address of an empty buffer."""
+    for parameter, length in lengths(parameters):
+        macro = ("READ" if parameter.const else "WORDS" if parameter.kind == "uint32_t" else
+                 "ENTRIES" if is_struct(parameter) else "WRITTEN")
+        yield f"{macro}({parameter.name}, {length.name})" if length else parameter.name
 
 
 def in_lines(begin, parts, end):
@@ -72,14 +73,14 @@ def call_text(call, parameters, secrets):
     of the structs `secrets` is secret, the function clears stack and registers."""
     sees_secrets = any("secret" in parameter.roles or parameter.kind in secrets for parameter in call.parameters)
     result = "" if call.answer == "void" else "result = " if sees_secrets else "return "
-    cast = "" if call.answer == plain(call.answer) else f"({call.answer}) "
+    cast = "" if call.answer == plain_type(call.answer) else f"({call.answer}) "
     body = [in_lines(f"    {result}{cast}CALL({call.name})(", arguments(parameters), ");")]
     if sees_secrets:
         before, after = ([f"    {call.answer} result;", ""], ["    return result;"]) if result else ([], [])
         body = [*before, *body, "    minisign_clear_used();", *after]
     return "\n".join(
         [
-            in_lines(f"PROVED({plain(call.answer)}, {call.name}, (", map(plain_parameter, parameters), "));"),
+            in_lines(f"PROVED({plain_type(call.answer)}, {call.name}, (", map(plain_parameter, parameters), "));"),
             "",
             in_lines(f"{call.answer} {call.name}(", (parameter.text for parameter in call.parameters), ")"),
             "{",
@@ -94,7 +95,7 @@ def head_of(file, end):
     """Returns the hand-written head of a generated file."""
     head = re.match(rf".*?\n{end}\n", read(file), re.S)
     if head is None:
-        raise Unfit(f"{file} lacks its head, which ends with {end}")
+        raise SourceError(f"{file} lacks its head, which ends with {end}")
     return head[0]
 
 
@@ -117,30 +118,31 @@ NUMBER_BITS = {"uint64_t": 64, "size_t": 64, "uint32_t": 32}
 
 def numbers_in(header):
     """Returns the structs with numbers that a caller reads or writes, and the names and sizes of these numbers."""
-    found = {
+    numbers_by_struct = {
         name: [
             (field.name, NUMBER_BITS[field.kind]) for field in fields if field.kind in NUMBER_BITS and not field.count
         ]
         for name, fields in header.structs.items()
     }
-    return {name: numbers for name, numbers in found.items() if numbers and name not in header.in_parts}
+    return {name: numbers for name, numbers in numbers_by_struct.items() if numbers and name not in header.in_parts}
 
 
-def turning_text(name, numbers, used):
+def conversion_functions(name, numbers, used):
     """Returns the functions that convert the numbers of a struct to little-endian and back, if they are used."""
-    lines = {"given": "store{1}(address(&lent->{0}), lent->{0});", "got": "lent->{0} = load{1}(address(&lent->{0}));"}
+    lines = {"to_little_endian": "store{1}(address(&object->{0}), object->{0});",
+             "from_little_endian": "object->{0} = load{1}(address(&object->{0}));"}
     return "\n".join(line for verb, form in lines.items() if (verb, name) in used for line in (
-        f"static inline void {verb}_{name}({name} *lent)", "{", *(f"    {form.format(*number)}" for number in numbers), "}", ""))
+        f"static inline void {verb}_{name}({name} *object)", "{", *(f"    {form.format(*number)}" for number in numbers), "}", ""))
 
 
-def turned(parameter, length, structs):
+def conversion_of(parameter, length, structs):
     """Returns the lines before the call, the lines after it, and the argument for a parameter."""
     kind, name = parameter.kind, parameter.name
     if not parameter.star and not parameter.count:
         return [], [], name
     if kind in NUMBER_BITS and not length:
         # A number that the call may write.
-        copy = f"{name}_kept"
+        copy = f"{name}_copy"
         return ([f"uint64_t {copy} = 0;", f"store{NUMBER_BITS[kind]}(address(&{copy}), *{name});"],
                 [f"*{name} = ({kind}) load{NUMBER_BITS[kind]}(address(&{copy}));"], f"address(&{copy})")
     if kind in structs and length:
@@ -149,29 +151,30 @@ def turned(parameter, length, structs):
             "if (!IS_LITTLE_ENDIAN) {{\n        for (size_t i = 0; i < {1}; i++) {{\n            {2}_{3}(&{0}[i]);\n   "
             "     }}\n    }}"
         )
-        return [loop.format(name, length.name, "given", kind)], [loop.format(name, length.name, "got", kind)], f"address({name})"
+        before, after = (loop.format(name, length.name, verb, kind) for verb in ("to_little_endian", "from_little_endian"))
+        return [before], [after], f"address({name})"
     if kind in structs and parameter.const:
         return (
-            [f"{kind} {name}_kept;", f"const {kind} *{name}_lent = LENT({kind}, {name}, &{name}_kept);"],
+            [f"{kind} {name}_copy;", f"const {kind} *{name}_passed = CONVERTED({kind}, {name}, &{name}_copy);"],
             [],
-            f"address({name}_lent)",
+            f"address({name}_passed)",
         )
     if kind in structs:
-        return [f"given_{kind}({name});"], [f"got_{kind}({name});"], f"address({name})"
+        return [f"to_little_endian_{kind}({name});"], [f"from_little_endian_{kind}({name});"], f"address({name})"
     return [], [], f"address({name})"
 
 
 def machine_kind(kind, is_pointer):
     """Returns a type as dist/calls.c has it."""
-    return "uint64_t" if is_pointer or kind in ("size_t", "int64_t") else plain(kind)
+    return "uint64_t" if is_pointer or kind in ("size_t", "int64_t") else plain_type(kind)
 
 
 def pointers_call(call, structs):
     """Returns the declaration of a call of dist/calls.c, and the function that makes it."""
-    conversions = [turned(parameter, length, structs) for parameter, length in lengths(call.parameters)]
-    before, after = ([line for conversion in conversions for line in conversion[at]] for at in range(2))
+    conversions = [conversion_of(parameter, length, structs) for parameter, length in lengths(call.parameters)]
+    before, after = ([line for conversion in conversions for line in conversion[part]] for part in range(2))
     words = [argument for _, _, argument in conversions]
-    answer, kind = plain(call.answer), machine_kind(call.answer, False)
+    answer, kind = plain_type(call.answer), machine_kind(call.answer, False)
     prefix = "" if answer == "void" else f"const {kind} result = " if after else "return "
     cast = f"({answer}) " if prefix and kind != answer else ""
     if after and prefix:
@@ -202,7 +205,7 @@ def pointers_call(call, structs):
     )
 
 
-def taken_by_names(header, call):
+def parameters_by_field_name(header, call):
     """Returns the parameters of the proved call. A field of a struct gets its own name, without that of the struct."""
     return (parameter._replace(name=parameter.name.rpartition("->")[2]) for parameter in header.flat_parameters(call))
 
@@ -210,12 +213,13 @@ def taken_by_names(header, call):
 def pointers_text(header):
     """Returns pointers.c."""
     structs, calls = numbers_in(header), [
-        call._replace(parameters=[*taken_by_names(header, call)]) for call in proved_calls(header)
+        call._replace(parameters=[*parameters_by_field_name(header, call)]) for call in proved_calls(header)
     ]
     pointers = [parameter for call in calls for parameter in call.parameters if parameter.star]
-    used = {(verb, parameter.kind) for parameter in pointers for verb in ("given", *([] if parameter.const else ["got"]))}
+    used = {(verb, parameter.kind) for parameter in pointers
+            for verb in ("to_little_endian", *([] if parameter.const else ["from_little_endian"]))}
     head = head_of(POINTERS, re.escape("/* ---- Made by tools/header.py ---- */"))
-    return "\n".join([head, *filter(None, (turning_text(name, structs[name], used) for name in structs)),
+    return "\n".join([head, *filter(None, (conversion_functions(name, structs[name], used) for name in structs)),
                       *(pointers_call(call, structs) for call in calls)])
 
 

@@ -21,7 +21,7 @@ import sys
 import tempfile
 from collections import namedtuple
 
-from sources import ROOT, Unfit, read
+from sources import ROOT, SourceError, read
 
 sys.path.append(os.path.join(ROOT, "tests", "shared"))
 
@@ -55,7 +55,7 @@ class Header:
 
     def __init__(self, *texts):
         with tempfile.TemporaryDirectory(prefix="header-") as directory:
-            names = [os.path.join(directory, f"part{at}.h") for at in range(len(texts))]
+            names = [os.path.join(directory, f"part{number}.h") for number in range(len(texts))]
             for name, text in zip(names, texts):
                 with open(name, "w", encoding="utf-8") as file:
                     file.write(text)
@@ -63,8 +63,8 @@ class Header:
             declared = [*declarations(directory, names, macros)]
         values = {
             name.removeprefix(PROBE): number
-            for _, found in enums_of(declared)
-            for _, name, number in found
+            for _, members in enums_of(declared)
+            for _, name, number in members
             if name.startswith(PROBE)
         }
         self.texts = [(name, body) for name, _, body in macros if body.startswith('"')]
@@ -76,12 +76,12 @@ class Header:
         ]
         self.enums = {
             name.removeprefix("minisign_"): [
-                Member(comment, member.removeprefix("MINISIGN_"), number) for comment, member, number in found
+                Member(comment, member.removeprefix("MINISIGN_"), number) for comment, member, number in members
             ]
-            for name, found in enums_of(declared)
+            for name, members in enums_of(declared)
             if name
         }
-        self.structs = {node["name"]: [value(field, text) for field in inner(node, "FieldDecl")]
+        self.structs = {node["name"]: [value(field, text) for field in children_of_kind(node, "FieldDecl")]
                         for node, text in declared if node["kind"] == "RecordDecl"}
         self.calls = [*calls_of(declared)]
         self.in_parts = {name for name, fields in self.structs.items() if any(field.star for field in fields)}
@@ -135,27 +135,27 @@ def run_clang(directory, main, *flags):
         *flags,
         path,
     ]
-    ran = subprocess.run(command, stdin=subprocess.DEVNULL, stdout=subprocess.PIPE, stderr=subprocess.PIPE)
-    if ran.returncode:
-        raise Unfit(f"clang: {ran.stderr.decode(errors='replace')[:1000]}")
-    return ran.stdout.decode()
+    process = subprocess.run(command, stdin=subprocess.DEVNULL, stdout=subprocess.PIPE, stderr=subprocess.PIPE)
+    if process.returncode:
+        raise SourceError(f"clang: {process.stderr.decode(errors='replace')[:1000]}")
+    return process.stdout.decode()
 
 
-def including(names):
+def includes(names):
     return "#include <stddef.h>\n#include <stdint.h>\n" + "".join(f'#include "{name}"\n' for name in names)
 
 
 def macros_of(directory, names):
     """Returns the macros that are constants, texts or sizes, in their order: name, parameters or None, and body."""
-    file, found = "", {}
-    for line in run_clang(directory, including(names), "-E", "-dD").split("\n"):
+    file, macros = "", {}
+    for line in run_clang(directory, includes(names), "-E", "-dD").split("\n"):
         if line.startswith("# "):
             file = line.split('"')[1]
         elif line.startswith("#undef MINISIGN_"):
-            found.pop(line[len("#undef MINISIGN_"):], None)
+            macros.pop(line[len("#undef MINISIGN_"):], None)
         elif file in names and (macro := MACRO.fullmatch(line)) and macro[3] and not macro[3].startswith("__attribute__"):
-            found[macro[1]] = macro[2], macro[3]
-    return [(name, *how) for name, how in found.items() if name not in NO_CONSTANTS]
+            macros[macro[1]] = macro[2], macro[3]
+    return [(name, *parameters_and_body) for name, parameters_and_body in macros.items() if name not in NO_CONSTANTS]
 
 
 def declarations(directory, names, macros):
@@ -168,39 +168,39 @@ def declarations(directory, names, macros):
         for name, lengths, body in macros
         if not body.startswith('"')
     ]
-    probes = "".join(f"    {PROBE}{name} = MINISIGN_{name}{given},\n" for name, given in numbers)
-    main = including(names) + (f"enum {{\n{probes}}};\n" if probes else "")
+    probes = "".join(f"    {PROBE}{name} = MINISIGN_{name}{arguments},\n" for name, arguments in numbers)
+    main = includes(names) + (f"enum {{\n{probes}}};\n" if probes else "")
     tree, file = json.loads(run_clang(directory, main, "-fsyntax-only", "-fparse-all-comments", "-Xclang", "-ast-dump=json")), ""
     texts = {name: read(name) for name in names}
     for node in tree["inner"]:
-        file = at = last_file(node.get("loc", {}), file)
+        file = declared_in = last_file(node.get("loc", {}), file)
         file = last_file(node, file)
-        is_probe = at.endswith("/main.c") and node["kind"] == "EnumDecl"
+        is_probe = declared_in.endswith("/main.c") and node["kind"] == "EnumDecl"
         is_new = "previousDecl" not in node and node.get("storageClass") != "static" and not node.get("isImplicit")
-        if is_new and (is_probe or at in texts):
-            yield node, texts.get(at, "")
+        if is_new and (is_probe or declared_in in texts):
+            yield node, texts.get(declared_in, "")
 
 
 def last_file(node, before):
     """Returns the file of the last location in a node, or `before` if the node names no file."""
-    return ([each["file"] for each in within(node) if "offset" in each and "file" in each] or [before])[-1]
+    return ([each["file"] for each in nodes_of(node) if "offset" in each and "file" in each] or [before])[-1]
 
 
-def within(node):
+def nodes_of(node):
     """Yields a node of the tree and all nodes below it, in the order of the output."""
     if isinstance(node, dict):
         yield node
-    for each in node.values() if isinstance(node, dict) else node if isinstance(node, list) else ():
-        yield from within(each)
+    for child in node.values() if isinstance(node, dict) else node if isinstance(node, list) else ():
+        yield from nodes_of(child)
 
 
-def inner(node, kind):
-    return [each for each in node.get("inner", ()) if each.get("kind") == kind]
+def children_of_kind(node, kind):
+    return [child for child in node.get("inner", ()) if child.get("kind") == kind]
 
 
 def comment_of(node):
     """Returns the text of the comment of a declaration."""
-    words = [each["text"] for comment in inner(node, "FullComment") for each in within(comment) if "text" in each]
+    words = [each["text"] for comment in children_of_kind(node, "FullComment") for each in nodes_of(comment) if "text" in each]
     return " ".join(" ".join(words).split())
 
 
@@ -210,11 +210,11 @@ def enums_of(declared):
         if node["kind"] == "EnumDecl":
             yield node.get("name", ""), [
                 (
-                    comment_of(each),
-                    each["name"],
-                    int(next(part["value"] for part in within(each) if part.get("kind") == "ConstantExpr")),
+                    comment_of(member),
+                    member["name"],
+                    int(next(part["value"] for part in nodes_of(member) if part.get("kind") == "ConstantExpr")),
                 )
-                for each in inner(node, "EnumConstantDecl")
+                for member in children_of_kind(node, "EnumConstantDecl")
             ]
 
 
@@ -225,14 +225,14 @@ def number_text(number):
 def value(node, text):
     """Returns a parameter or a field. The length of an array comes from the text, because clang drops it from the type
     of a parameter."""
-    place = node["loc"].get("expansionLoc", node["loc"])
-    after = re.match(r"\w+\[(\d+)\]", text[place["offset"]:])
-    found = TYPE.fullmatch(node["type"]["qualType"])
-    if not found:
-        raise Unfit(f"{node['type']['qualType']} {node.get('name')}: unknown type")
-    const, kind, star, count = (group or "" for group in found.groups())
-    if after and not count:
-        star, count = "", after[1]
+    location = node["loc"].get("expansionLoc", node["loc"])
+    array_length = re.match(r"\w+\[(\d+)\]", text[location["offset"]:])
+    match = TYPE.fullmatch(node["type"]["qualType"])
+    if not match:
+        raise SourceError(f"{node['type']['qualType']} {node.get('name')}: unknown type")
+    const, kind, star, count = (group or "" for group in match.groups())
+    if array_length and not count:
+        star, count = "", array_length[1]
     declared = f"{const}{kind} {star}{node['name']}" + (f"[{count}]" if count else "")
     return Value(declared, const, kind, star, node["name"], count, roles_of(node))
 
@@ -240,11 +240,11 @@ def value(node, text):
 def roles_of(node):
     """Returns the roles of a parameter or a field, each with its argument."""
     roles = {}
-    for attribute in inner(node, "AnnotateAttr"):
-        words = [json.loads(each["value"]) for each in within(attribute) if each.get("kind") == "StringLiteral"]
+    for attribute in children_of_kind(node, "AnnotateAttr"):
+        words = [json.loads(each["value"]) for each in nodes_of(attribute) if each.get("kind") == "StringLiteral"]
         role, _, more = words[-1].partition(" ")
         if role not in ("output", "presence", "room", "secret") or (role == "room") != bool(more):
-            raise Unfit(f"{node['name']}: unknown role: {words}")
+            raise SourceError(f"{node['name']}: unknown role: {words}")
         roles[role] = more
     return roles
 
@@ -255,19 +255,19 @@ def calls_of(declared):
     for node, text in declared:
         if node["kind"] != "FunctionDecl":
             continue
-        begin = place_of(node["range"]["begin"])
+        begin = offset_of(node["range"]["begin"])
         if comment_of(node):
             comment = comment_of(node)
         elif not re.fullmatch(r"[^;]*;\s*", text[end:begin]):
-            raise Unfit(f"{node['name']} has no comment directly above it; put #define lines above the comment")
-        end = place_of(node["range"]["end"])
+            raise SourceError(f"{node['name']} has no comment directly above it; put #define lines above the comment")
+        end = offset_of(node["range"]["end"])
         yield Call(
             node["type"]["qualType"].partition(" (")[0],
             node["name"],
-            [value(each, text) for each in inner(node, "ParmVarDecl")],
+            [value(each, text) for each in children_of_kind(node, "ParmVarDecl")],
             comment,
         )
 
 
-def place_of(place):
-    return place.get("expansionLoc", place)["offset"]
+def offset_of(location):
+    return location.get("expansionLoc", location)["offset"]

@@ -95,10 +95,10 @@ def read_proved():
 # Building.
 
 
-def built_calls(directory, is_check):
+def build_calls(directory, is_check):
     """Yields the archives of the proved calls, and the C that is translated from the bitcode of one of them. In a check, the
     second and the third archive reuse the proofs of the first."""
-    compilers, bitcode = portable_calls.keeping_compilers(directory)
+    compilers, bitcode = portable_calls.compilers_that_save_module(directory)
     incremental = ["--incremental", os.path.join(directory, "kept")] if is_check else []
     for name, flags in ARCHIVES.items():
         archive = os.path.join(directory, name)
@@ -110,10 +110,10 @@ def built_calls(directory, is_check):
         f"{C_CALLS}, by tools/wasm_to_c.py, which is tested and not proved; sum of the bitcode"
         f" {hashlib.sha256(read(bitcode)).hexdigest()}"
     )
-    yield Built(C_CALLS, portable_calls.text(bitcode, names, directory).encode(), {TRANSLATED: line})
+    yield Built(C_CALLS, portable_calls.c_source(bitcode, names, directory).encode(), {TRANSLATED: line})
 
 
-def built_page(*_):
+def build_page(*_):
     """Yields the page. The page contains the digest of its sources. PROVED also has this digest, and that of the module."""
     module, by = build.lowered(build.proved_module()), build.lowering_tool()
     if os.path.exists(os.path.join(DIST, PAGE_FILE)):
@@ -126,14 +126,14 @@ def built_page(*_):
 
 def lowered_by(page):
     """Returns the name of the tool that lowered the module of a page to 32 bits."""
-    found = re.search(rb'^const LOWERED_BY = "(.*)";$', page, re.M)
-    return found[1].decode() if found else "nothing"
+    match = re.search(rb'^const LOWERED_BY = "(.*)";$', page, re.M)
+    return match[1].decode() if match else "nothing"
 
 
-def built(parts, is_check=False):
+def build_parts(parts, is_check=False):
     """Returns all files of these parts."""
     with tempfile.TemporaryDirectory(prefix="dist-") as directory:
-        return [file for part in parts for file in (built_calls if part == "calls" else built_page)(directory, is_check)]
+        return [file for part in parts for file in (build_calls if part == "calls" else build_page)(directory, is_check)]
 
 
 def write(name, data):
@@ -152,12 +152,12 @@ def make(parts):
             f"dist/ was made by {lines['kit']}, but {kit} is installed: name no part, so that one kit makes all of dist/"
         )
     lines["kit"] = kit
-    files = built(parts)
+    files = build_parts(parts)
     for file in files:
         if FROM_EARLIER_RUNS in file.lines.get(file.name, ""):
             raise proved.NotBuilt(
                 f"the verdict of {file.name} says {FROM_EARLIER_RUNS}, because it rests on proofs that an earlier `rt check` "
-                "kept. Nothing was written.\nhint: run `rt ci | tee said`, and then `python3 tools/dist.py --after said`"
+                "kept. Nothing was written.\nhint: run `rt ci | tee rt-ci.log`, and then `python3 tools/dist.py --after rt-ci.log`"
             )
     for file in files:
         write(file.name, file.data)
@@ -174,9 +174,9 @@ def make(parts):
 def check_files(report):
     """Checks that dist/ has exactly the files of SHA256SUMS, with these digests."""
     listed = dict(reversed(line.split("  ", 1)) for line in read(SUMS).decode().splitlines())
-    found = {name for name in os.listdir(DIST) if name not in (SUMS, "README.md")}
-    report.check(found == {*listed} == {*LISTED}, "dist", f"it has {sorted(found)}, and {SUMS} lists {sorted(listed)}")
-    for name in sorted(found & {*listed}):
+    existing = {name for name in os.listdir(DIST) if name not in (SUMS, "README.md")}
+    report.check(existing == {*listed} == {*LISTED}, "dist", f"it has {sorted(existing)}, and {SUMS} lists {sorted(listed)}")
+    for name in sorted(existing & {*listed}):
         report.check(hashlib.sha256(read(name)).hexdigest() == listed[name], f"dist/{name}", f"its sum is not the one in {SUMS}")
 
 
@@ -224,9 +224,9 @@ def check_built(report, file, lines, kit):
     )
     if file.name == PAGE_FILE:
         # Left out are the module, the hashes of the script in the policy, and the name of the tool that lowered the module.
-        bare = [re.sub(rb'const MODULE = "[^"]*"|\'sha256-[^\']*\'', b"", page).replace(lowered_by(page).encode(), b"")
-                for page in (read(file.name), file.data)]
-        report.check(bare[0] == bare[1], f"dist/{file.name}", "it differs in more than its module")
+        without_module = [re.sub(rb'const MODULE = "[^"]*"|\'sha256-[^\']*\'', b"", page).replace(lowered_by(page).encode(), b"")
+                          for page in (read(file.name), file.data)]
+        report.check(without_module[0] == without_module[1], f"dist/{file.name}", "it differs in more than its module")
 
 
 def check(parts):
@@ -243,7 +243,7 @@ def check(parts):
     )
     logics = [re.search(r"logic \S+", version)[0] for version in (lines["kit"], kit)]
     report.check(logics[0] == logics[1], "dist", f"it was proved by {lines['kit']}, and the installed {kit} has another logic")
-    for file in built(parts, is_check=True):
+    for file in build_parts(parts, is_check=True):
         check_built(report, file, lines, kit)
         verdicts = [lines.get(file.name), file.lines.get(file.name)]
         is_proved = [verdict is not None and verdict.startswith("logic=proved ") for verdict in verdicts]
@@ -261,11 +261,11 @@ def check(parts):
 
 def check_translated(report, lines):
     """Checks that PROVED names the bitcode from which the C is translated, and does not claim that the C is proved."""
-    found = [line for line in read(PROVED).decode().partition("\n\n")[2].splitlines() if C_CALLS in line]
+    lines_about_c = [line for line in read(PROVED).decode().partition("\n\n")[2].splitlines() if C_CALLS in line]
     report.check(
-        found == [f"{TRANSLATED}: {lines.get(TRANSLATED)}"] and "logic=proved" not in found[0],
+        lines_about_c == [f"{TRANSLATED}: {lines.get(TRANSLATED)}"] and "logic=proved" not in lines_about_c[0],
         PROVED,
-        f"its lines about {C_CALLS} are {found}",
+        f"its lines about {C_CALLS} are {lines_about_c}",
     )
 
 
@@ -284,8 +284,8 @@ def main(words):
         if options.check:
             return check(parts)
         make(parts)
-    except (needs.Missing, proved.NotBuilt, build.NotPossible, OSError) as why:
-        print(f"FAILED: {why}" + ("\n0 passed, 1 failed" if options.check else ""))
+    except (needs.Missing, proved.NotBuilt, build.NotPossible, OSError) as error:
+        print(f"FAILED: {error}" + ("\n0 passed, 1 failed" if options.check else ""))
         return 1
     return 0
 

@@ -23,7 +23,7 @@ import boundary
 import manual
 import sources
 from c_header import FILE as HEADER, INSTALL_HEADER, LIST_HEADER, parsed
-from sources import ROOT, Unfit, read
+from sources import ROOT, SourceError, read
 
 # The header of the call that installs. Nothing in it is generated.
 INSTALLING_HEADER = "include/minisign_installing.h"
@@ -82,29 +82,29 @@ HASH_NUMBERS = f"{LISTS_CRATE}/specs/Numbers.antt"
 NO_HASH = "    /* None: a line with 128 digits must name its hash function. */\n    MINISIGN_HASH_NONE = 0"
 
 
-def item_text(file, what, path):
+def item_text(file, keyword, path):
     """Returns the text of the only item with this kind and path, which is not a method of a trait."""
-    found = [item.text for item in sources.read_source(f"{ROOT}/{file}").items
-             if item.what == what and item.path == path and not item.trait]
-    if len(found) != 1:
-        raise Unfit(f"{file} has {len(found)} items {what} {path}")
-    return found[0]
+    texts = [item.text for item in sources.read_source(f"{ROOT}/{file}").items
+             if item.keyword == keyword and item.path == path and not item.trait]
+    if len(texts) != 1:
+        raise SourceError(f"{file} has {len(texts)} items {keyword} {path}")
+    return texts[0]
 
 
 def comments_of(file, enum):
     """Returns the variants of an enum with the first sentences of their doc comments."""
     body = item_text(file, "enum", enum).partition("{")[2]
-    found = re.findall(r"((?:^    ///.*\n)+)    (\w+)(?: \{[^}]*\}|\(\w+\))?,$", body, re.M)
-    if len(found) != len(re.findall(r"^    [A-Z]\w*", body, re.M)):
-        raise Unfit(f"{enum}: a variant has no doc comment")
-    return {variant: first_sentence(comment) for comment, variant in found}
+    variants = re.findall(r"((?:^    ///.*\n)+)    (\w+)(?: \{[^}]*\}|\(\w+\))?,$", body, re.M)
+    if len(variants) != len(re.findall(r"^    [A-Z]\w*", body, re.M)):
+        raise SourceError(f"{enum}: a variant has no doc comment")
+    return {variant: first_sentence(comment) for comment, variant in variants}
 
 
 def first_sentence(comment):
     """Returns the first sentence of a comment of the source, as plain text: code loses its backticks, and is quoted
     unless it is a name."""
-    bare = " ".join(re.sub(r"(?m)^ *///", "", comment).split())
-    sentence = re.match(r"(?:`[^`]*`|[^.`])*\.", bare)[0]
+    text = " ".join(re.sub(r"(?m)^ *///", "", comment).split())
+    sentence = re.match(r"(?:`[^`]*`|[^.`])*\.", text)[0]
     return re.sub(r"`([^`]*)`", lambda code: code[1] if re.fullmatch(r"\w+", code[1]) else f'"{code[1]}"', sentence)
 
 
@@ -112,7 +112,7 @@ def numbers_of(comments, file, definition):
     """Returns the members of an enum, with the numbers from a definition that has one line per variant."""
     lines = re.findall(rf"^{definition} \(?(\w+)[^=]*= (\d+)$", read(file), re.M)
     if {*comments} != {variant for variant, _ in lines}:
-        raise Unfit(f"{file}: {definition} must have one number for each of {', '.join(sorted(comments))}")
+        raise SourceError(f"{file}: {definition} must have one number for each of {', '.join(sorted(comments))}")
     return sorted(Number(int(number), variant, comments[variant]) for variant, number in lines)
 
 
@@ -124,14 +124,14 @@ def misuses():
 
 def fault_rows():
     """Returns the names, numbers, kinds and texts of the named errors, in their order. A and B stand for key IDs in a text."""
-    longer, specs = {}, read(FAULT_ROWS)
+    composed_texts, specs = {}, read(FAULT_ROWS)
     for name, body in re.findall(r"^named_text \(?fault\.(\w+)[^=]*=\s*(.*(?:\n    .*)*)", specs, re.M):
         letters = iter("AB")
-        longer[name] = "".join(piece or next(letters) for piece, _ in re.findall(r'codes "([^"]*)"|(key_id_text)', body))
+        composed_texts[name] = "".join(piece or next(letters) for piece, _ in re.findall(r'codes "([^"]*)"|(key_id_text)', body))
     rows = re.findall(r'^fault_row \(?fault\.(\w+)[^=]*=\s+row (\d+) kind\.(\w+)\s+\(codes "([^"]*)"\)', specs, re.M)
     if len(rows) != len(re.findall(r"^fault_row \(?fault\.", specs, re.M)):
-        raise Unfit(f"{FAULT_ROWS}: the row of an error has a form that this script cannot read")
-    return [(name, number, kind, longer.get(name, text)) for name, number, kind, text in rows]
+        raise SourceError(f"{FAULT_ROWS}: the row of an error has a form that this script cannot read")
+    return [(name, number, kind, composed_texts.get(name, text)) for name, number, kind, text in rows]
 
 
 def weak_row():
@@ -140,7 +140,7 @@ def weak_row():
     constant = re.search(r"((?:^///.*\n)+)pub const WEAK_ED25519: u32 = (\d+);$", source, re.M)
     text = re.search(r'^weak_text = codes "([^"]*)"$', specs, re.M)
     if not constant or not text or f"\nweak_number = {constant[2]}\n" not in specs:
-        raise Unfit(f"{NUMBERS}: WEAK_ED25519 has no number or no text, or the definitions have another number")
+        raise SourceError(f"{NUMBERS}: WEAK_ED25519 has no number or no text, or the definitions have another number")
     return ("WeakEd25519", constant[2], "Verify", text[1]), first_sentence(constant[1])
 
 
@@ -151,7 +151,7 @@ def install_rows(comments):
     )
     # The variant `Library` contains another named error, whose row is one of `fault_rows`.
     if {name for name, *_ in rows} != {*comments} - {"Library"}:
-        raise Unfit("install_row must have one row for each error of installing")
+        raise SourceError("install_row must have one row for each error of installing")
     return rows
 
 
@@ -163,29 +163,30 @@ def list_rows(comments):
         re.M,
     )
     if {name for name, *_ in rows} != {*comments} - {"Library"}:
-        raise Unfit("list_row must have one row for each error of lists")
+        raise SourceError("list_row must have one row for each error of lists")
     return rows
 
 
 def rows_once(installs, lists):
     """Returns both tables. Errors of lists that installing returns too are in both, with the same number, kind and text."""
     if len({row[0] for row in [*installs, *lists]}) != len({*installs, *lists}):
-        raise Unfit("an error of lists has another row among the errors of installing")
+        raise SourceError("an error of lists has another row among the errors of installing")
     return [*(row for row in installs if row not in lists), *lists]
 
 
 def all_numbers(rows, comments):
     """Returns the errors that calls of the headers return, in the order of their numbers."""
     if NOT_RETURNED - {name for name, *_ in rows}:
-        raise Unfit(
+        raise SourceError(
             f"NOT_RETURNED names {', '.join(sorted(NOT_RETURNED - {name for name, *_ in rows}))}, which are not named errors"
         )
-    found = [*misuses(), *(Number(int(number), name, comments[name]) for name, number, _, _ in rows if name not in NOT_RETURNED)]
-    if len({error.number for error in found}) != len(found) or len({error.name for error in found}) != len(found):
-        raise Unfit("two errors have the same number or the same name")
-    if {*NAMES} - {error.variant for error in found}:
-        raise Unfit(f"a name in C for {', '.join(sorted({*NAMES} - {error.variant for error in found}))}, which no call returns")
-    return sorted(found)
+    errors = [*misuses(), *(Number(int(number), name, comments[name]) for name, number, _, _ in rows if name not in NOT_RETURNED)]
+    if len({error.number for error in errors}) != len(errors) or len({error.name for error in errors}) != len(errors):
+        raise SourceError("two errors have the same number or the same name")
+    if {*NAMES} - {error.variant for error in errors}:
+        unused = sorted({*NAMES} - {error.variant for error in errors})
+        raise SourceError(f"a name in C for {', '.join(unused)}, which no call returns")
+    return sorted(errors)
 
 
 def enum_text(enum, numbers, prefix="", first=()):
@@ -214,10 +215,10 @@ def kinds_text():
 
 def operations(comments):
     """Returns the members of the enum of operations, with the numbers from the list of the definitions."""
-    listed = re.search(r"(?m)^operations =\n((?:    .*\n)+)", read(OPERATIONS))
-    names = re.findall(r"\w+", listed[1] if listed else "")
+    match = re.search(r"(?m)^operations =\n((?:    .*\n)+)", read(OPERATIONS))
+    names = re.findall(r"\w+", match[1] if match else "")
     if sorted(names) != sorted(comments):
-        raise Unfit(f"{OPERATIONS}: operations must list each of {', '.join(sorted(comments))}")
+        raise SourceError(f"{OPERATIONS}: operations must list each of {', '.join(sorted(comments))}")
     return [Number(number, name, comments[name]) for number, name in enumerate(names)]
 
 
@@ -259,11 +260,11 @@ def attributes_text(header):
     lines = []
     for call in header.calls:
         accesses, not_null = [], []
-        for at, (parameter, length) in enumerate(boundary.lengths(call.parameters), 1):
+        for position, (parameter, length) in enumerate(boundary.lengths(call.parameters), 1):
             if length:
-                accesses.append(f"MINISIGN_ACCESS(__{'read' if parameter.const else 'write'}_only__, {at}, {at + 1})")
+                accesses.append(f"MINISIGN_ACCESS(__{'read' if parameter.const else 'write'}_only__, {position}, {position + 1})")
             elif parameter.star or parameter.count:
-                not_null.append(str(at))
+                not_null.append(str(position))
         if accesses or not_null:
             parts = [*accesses, *([f"__nonnull__({', '.join(not_null)})"] if not_null else [])]
             lines.append(boundary.in_lines(f"MINISIGN_WITH({call.name}, ", parts, ");"))
@@ -272,10 +273,10 @@ def attributes_text(header):
 
 def answers_text(numbers):
     """Returns the enum of answers. An answer must not be the number of an error."""
-    found = re.findall(r"^pub const (ANSWER_(?:YES|NO)): u32 = (\d+);$", read(NUMBERS), re.M)
-    if len(found) != 2 or any(int(value) < 256 or int(value) in {error.number for error in numbers} for _, value in found):
-        raise Unfit(f"{NUMBERS} must have two answers that differ from all error numbers")
-    return "enum minisign_answer {\n" + ",\n".join(f"    MINISIGN_{name} = {int(value):#x}" for name, value in found) + "\n};\n"
+    answers = re.findall(r"^pub const (ANSWER_(?:YES|NO)): u32 = (\d+);$", read(NUMBERS), re.M)
+    if len(answers) != 2 or any(int(value) < 256 or int(value) in {error.number for error in numbers} for _, value in answers):
+        raise SourceError(f"{NUMBERS} must have two answers that differ from all error numbers")
+    return "enum minisign_answer {\n" + ",\n".join(f"    MINISIGN_{name} = {int(value):#x}" for name, value in answers) + "\n};\n"
 
 
 def table(head, rows):
@@ -286,11 +287,11 @@ def table(head, rows):
 
 def between(text, begin, end, content):
     """Returns the text with `content` between the lines `begin` and `end`."""
-    before, found, rest = text.partition(begin + "\n")
-    _, closed, after = rest.partition(end + "\n")
-    if not found or not closed:
-        raise Unfit(f"a file lacks the lines {begin!r} and {end!r}")
-    return before + found + content + closed + after
+    before, begin_line, rest = text.partition(begin + "\n")
+    _, end_line, after = rest.partition(end + "\n")
+    if not begin_line or not end_line:
+        raise SourceError(f"a file lacks the lines {begin!r} and {end!r}")
+    return before + begin_line + content + end_line + after
 
 
 def header_text(file, parts):
@@ -307,14 +308,14 @@ def formats_text(numbers, rows, comments):
     """Returns docs/FORMATS.md with the tables of API misuse and of all other errors."""
     texts = re.findall(r'Misuse::(\w+) => (?:\{\s*)?"((?:[^"\\]|\\.)*)"', item_text(NUMBERS, "fn", "Misuse::text"))
     in_c = {error.variant: f"`MINISIGN_{error.name}`" for error in numbers}
-    uses = [(str(misuse.number), in_c[misuse.variant], f"`{dict(texts)[misuse.variant]}`") for misuse in misuses()]
+    misuse_rows = [(str(misuse.number), in_c[misuse.variant], f"`{dict(texts)[misuse.variant]}`") for misuse in misuses()]
     # For an error with a name in C, the header says when it is returned.
-    named = [
+    error_rows = [
         (f"`{name}`", number, in_c.get(name, ""), kind, f"`{text}`", "" if name in in_c else comments[name])
         for name, number, kind, text in rows
     ]
-    tables = {"numbers": table(("Number", "Name in C", "Text"), uses),
-              "errors": table(("Name", "Number", "Name in C", "Kind", "Text", "When"), named)}
+    tables = {"numbers": table(("Number", "Name in C", "Text"), misuse_rows),
+              "errors": table(("Name", "Number", "Name in C", "Kind", "Text", "When"), error_rows)}
     text = read(FORMATS)
     for name, content in tables.items():
         text = between(text, f"<!-- {name}, made by tools/header.py -->", f"<!-- the end of the {name} -->", content)

@@ -38,36 +38,36 @@ def make_files(minisign):
     for name, data in contents.items():
         write(minisign.directory, name, data)
 
-    def keep(name, text, data="hello", key="first.pub"):
+    def add_signature(name, text, data="hello", key="first.pub"):
         write(minisign.directory, name, text)
         cases.append((key, data, name))
         return text
 
     for name, data in contents.items():
-        keep(f"{name}.minisig", minisign.sign("first", data), name)
-        keep(f"{name}-legacy.minisig", minisign.sign("first", data, legacy=True), name)
+        add_signature(f"{name}.minisig", minisign.sign("first", data), name)
+        add_signature(f"{name}-legacy.minisig", minisign.sign("first", data, legacy=True), name)
     hello = contents["hello"]
-    text = keep("comments.minisig", minisign.sign("first", hello, "a trusted comment", "an untrusted comment"))
-    keep("letters.minisig", minisign.sign("first", hello, "café €", "café"))
-    keep("tabs.minisig", minisign.sign("first", hello, "tabs\tinside", "\ttabs\t"))
-    keep("long.minisig", minisign.sign("first", hello, "x" * 1000, "y" * 900))
-    keep("space-behind.minisig", minisign.sign("first", hello, "behind ", "u"))
-    keep("no-utf8.minisig", minisign.sign("first", hello, b"\xff", "u"))
-    keep("sealed.minisig", minisign.sign("sealed", hello, password=PASSWORD), key="sealed.pub")
-    keep("second.minisig", minisign.sign("second", hello), key="second.pub")
+    text = add_signature("comments.minisig", minisign.sign("first", hello, "a trusted comment", "an untrusted comment"))
+    add_signature("letters.minisig", minisign.sign("first", hello, "café €", "café"))
+    add_signature("tabs.minisig", minisign.sign("first", hello, "tabs\tinside", "\ttabs\t"))
+    add_signature("long.minisig", minisign.sign("first", hello, "x" * 1000, "y" * 900))
+    add_signature("space-behind.minisig", minisign.sign("first", hello, "behind ", "u"))
+    add_signature("no-utf8.minisig", minisign.sign("first", hello, b"\xff", "u"))
+    add_signature("sealed.minisig", minisign.sign("sealed", hello, password=PASSWORD), key="sealed.pub")
+    add_signature("second.minisig", minisign.sign("second", hello), key="second.pub")
     cases += [("first.pub", "hello", "second.minisig"), ("second.pub", "hello", "hello.minisig"),
               ("first.pub", "binary", "hello.minisig"), ("first.pub", "empty", "hello-legacy.minisig")]
-    keep("cr-lf.minisig", text.replace(b"\n", b"\r\n"))
-    keep("no-line-feed.minisig", text[:-1])
-    keep("more-lines.minisig", text + b"more\n" * 3)
-    keep("changed-comment.minisig", with_line(text, 2, b"trusted comment: A trusted comment"))
-    keep("space-added.minisig", with_line(text, 2, lines(text)[2] + b" "))
-    keep("spaces-around-base64.minisig", with_line(text, 1, b" " + lines(text)[1] + b" "))
-    keep("three-lines.minisig", b"\n".join(lines(text)[:3]) + b"\n")
+    add_signature("cr-lf.minisig", text.replace(b"\n", b"\r\n"))
+    add_signature("no-line-feed.minisig", text[:-1])
+    add_signature("more-lines.minisig", text + b"more\n" * 3)
+    add_signature("changed-comment.minisig", with_line(text, 2, b"trusted comment: A trusted comment"))
+    add_signature("space-added.minisig", with_line(text, 2, lines(text)[2] + b" "))
+    add_signature("spaces-around-base64.minisig", with_line(text, 1, b" " + lines(text)[1] + b" "))
+    add_signature("three-lines.minisig", b"\n".join(lines(text)[:3]) + b"\n")
     record = record_of(text)
-    keep("other-algorithm.minisig", with_record(text, 1, b"EE" + record[2:]))
-    keep("as-legacy.minisig", with_record(text, 1, b"Ed" + record[2:]))
-    keep("longer-record.minisig", with_record(text, 3, record_of(text, 3) + b"more"))
+    add_signature("other-algorithm.minisig", with_record(text, 1, b"EE" + record[2:]))
+    add_signature("as-legacy.minisig", with_record(text, 1, b"Ed" + record[2:]))
+    add_signature("longer-record.minisig", with_record(text, 3, record_of(text, 3) + b"more"))
     key = minisign.read("first.pub")
     write(minisign.directory, "cr-lf.pub", key.replace(b"\n", b"\r\n"))
     write(minisign.directory, "other-algorithm.pub", with_record(key, 1, b"ED" + record_of(key)[2:]))
@@ -80,9 +80,9 @@ def result_of(program, directory, case):
     os.makedirs(run_directory, exist_ok=True)
     for name, source in zip(("minisign.pub", "data", "data.minisig"), case):
         shutil.copyfile(os.path.join(directory, source), os.path.join(run_directory, name))
-    ran = run_program([program, "-V", "-p", "minisign.pub", "-x", "data.minisig", "-m", "data"], run_directory)
-    return {"key": case[0], "data": case[1], "signature": case[2], "status": ran.status,
-            "output": ran.output.decode("latin-1"), "said": ran.said.decode("latin-1")}
+    result = run_program([program, "-V", "-p", "minisign.pub", "-x", "data.minisig", "-m", "data"], run_directory)
+    return {"key": case[0], "data": case[1], "signature": case[2], "status": result.status,
+            "output": result.stdout.decode("latin-1"), "error_output": result.stderr.decode("latin-1")}
 
 
 def main(directory):

@@ -25,7 +25,7 @@ def page_of(header):
     return f"c/man/{os.path.basename(header).removesuffix('.h')}.3"
 
 
-def escaped(line):
+def escape_roff(line):
     """Escapes a line of text for roff."""
     line = line.replace("\\", "\\e").replace("-", "\\-").replace("'", "\\(aq").replace("^", "\\(ha").replace("~", "\\(ti")
     return "\\&" + line if line.startswith(".") else line
@@ -33,7 +33,7 @@ def escaped(line):
 
 def code(text):
     """Returns the roff lines of code, which is printed as it is."""
-    return [".nf", *(escaped(line) for line in text.strip("\n").split("\n")), ".fi"] if text.strip() else []
+    return [".nf", *(escape_roff(line) for line in text.strip("\n").split("\n")), ".fi"] if text.strip() else []
 
 
 def prose(comment):
@@ -49,9 +49,9 @@ def prose(comment):
         if heading:
             lines.append(f".SH {heading[1].upper()}")
         elif line.startswith("- "):
-            lines += [".IP \\(bu 2", escaped(line[2:].strip())]
+            lines += [".IP \\(bu 2", escape_roff(line[2:].strip())]
         elif line.strip() and line != ".end" and not MAKERS_NOTE.fullmatch(line.strip()):
-            lines.append(escaped(line.strip()))
+            lines.append(escape_roff(line.strip()))
         elif not line.strip() and lines and lines[-1] != ".PP":
             lines.append(".PP")
     while lines and lines[-1] == ".PP":
@@ -59,7 +59,7 @@ def prose(comment):
     return lines
 
 
-def filled(lines):
+def wrap(lines):
     """Wraps text at 80 columns, and removes empty paragraphs and those directly after a section heading."""
     wrapped, text, is_code = [], [], False
     for line in [*lines, ""]:
@@ -86,15 +86,15 @@ def without_guards(text):
 
 def manual_text(page, header, version, examples):
     """Returns the manual page of a header: its comments and the code between them, then the examples."""
-    at, body, old = 0, [], read(page)
+    offset, body, old_page = 0, [], read(page)
     # The attributes of calls are only for compilers.
     header = re.sub(r"/\* Attributes, made by .*?/\* The end of the attributes\. \*/\n\n", "", header, flags=re.S)
-    for found in [*PIECE.finditer(header), None]:
-        end, begun = (found.start(), found.end()) if found else (len(header), 0)
-        for part in (code(without_guards(header[at:end])), prose(found[0]) if found else []):
+    for match in [*PIECE.finditer(header), None]:
+        end, next_offset = (match.start(), match.end()) if match else (len(header), 0)
+        for part in (code(without_guards(header[offset:end])), prose(match[0]) if match else []):
             body += [".PP"] * bool(part and body and not part[0].startswith(".SH")) + part
-        at = begun
+        offset = next_offset
     for heading, file in examples.items():
         body += [f".SH {heading.upper()}", *code(LICENCE.sub("", read(file)))]
-    head, found, _ = re.sub(r'(?m)^(\.TH .* "minisign ).*"$', rf'\g<1>{version}"', old).partition(".SH DESCRIPTION\n")
-    return head + found + "\n".join(filled(body)) + "\n" + old[old.rindex(".SH SEE ALSO\n"):]
+    head, heading, _ = re.sub(r'(?m)^(\.TH .* "minisign ).*"$', rf'\g<1>{version}"', old_page).partition(".SH DESCRIPTION\n")
+    return head + heading + "\n".join(wrap(body)) + "\n" + old_page[old_page.rindex(".SH SEE ALSO\n"):]

@@ -8,7 +8,8 @@ verification page in page/.
 An export is copied from its docstring to the brace that opens its body. The bodies are written by hand. The copy has
 another prefix (page_ for minisign_), and the changes in RENAMED, because the page has no errors of installing. Only the
 page has the exports in PAGE_ONLY. The contracts use definitions of minisign_c, on which minisign_page does not depend,
-so these are copied to crates/minisign_page/specs/ListCalls.antt. The last line is `N passed, M failed`.
+so these are copied to crates/minisign_page/specs/ListCalls.antt. The last line is `N passed, M failed`: the number of
+exports if both files are up to date, and the number of files that are not.
 
 Needs Python 3.9 or later.
 """
@@ -21,6 +22,7 @@ TOP = os.path.dirname(os.path.dirname(os.path.realpath(__file__)))
 PAGE, LIBRARY = "crates/minisign_page/src/lib.rt", "crates/minisign_c/src/lib.rt"
 # The name and the head of each export: docstring, attribute, signature and contract.
 EXPORT = r'(?m)^(?:///.*\n)*#\[unsafe\(no_mangle\)\]\npub extern "C" fn {prefix}_(\w+)\((?:.*\n)*?\{{$'
+# A call in the text of a contract, followed by its arguments or the end of a code span.
 CALL = re.compile(r"\bminisign_(\w+)(?=[(`])")
 # Texts of a copied contract, and what replaces them.
 RENAMED = (("IsCallMeaning", "IsListMeaning"), ("of the error of an installation or a list,", "of the error of a list,"))
@@ -49,32 +51,33 @@ def is_used(name, body):
     return all(re.search(rf"(?<![\w.]){re.escape(part)}(?!\w)", body) for part in parts)
 
 
-def definitions(library):
-    """Returns the new text of PAGE_SPECS. `library` is the text of SPECS."""
-    body, imports = BEGIN + library.partition(BEGIN)[2].partition(END)[0], []
+def definitions(specs):
+    """Returns the new text of PAGE_SPECS. `specs` is the text of SPECS."""
+    body, imports = BEGIN + specs.partition(BEGIN)[2].partition(END)[0], []
     body = MEANING + body.rstrip("\n") + "\n"
-    meant = "use Rattle.minisign_external.specs.Numbers.{IsMeaning}\n"
-    for found in re.finditer(r"(?m)^use (Rattle\.[\w.]+)\.\{(.*)\}$", meant + library.partition("-- ==")[0]):
-        names = [name for name in found[2].split(", ") if is_used(name, body)]
-        imports += [f"use {found[1]}.{{{', '.join(names)}}}\n"] if names else []
+    meaning_import = "use Rattle.minisign_external.specs.Numbers.{IsMeaning}\n"
+    for match in re.finditer(r"(?m)^use (Rattle\.[\w.]+)\.\{(.*)\}$", meaning_import + specs.partition("-- ==")[0]):
+        names = [name for name in match[2].split(", ") if is_used(name, body)]
+        imports += [f"use {match[1]}.{{{', '.join(names)}}}\n"] if names else []
     return "-- The results of the calls for lists as numbers, and the structs after them. Copied from minisign_c by\n" \
            f"-- tools/page_contracts.py.\n{''.join(imports)}\n{body}"
 
 
 def heads(text, prefix):
     """Returns the head of each export by its name."""
-    return {found[1]: found[0] for found in re.finditer(EXPORT.format(prefix=prefix), text)}
+    return {match[1]: match[0] for match in re.finditer(EXPORT.format(prefix=prefix), text)}
 
 
-def generated(page, library):
-    """Returns the text of the page's crate with the contracts of the library."""
-    ours, theirs = heads(page, "page"), heads(library, "minisign")
-    for name, head in ours.items():
+def page_with_contracts(page, library):
+    """Returns the text of the page's crate with the contracts of the C library. `page` and `library` are the texts of
+    the files PAGE and LIBRARY."""
+    page_heads, library_heads = heads(page, "page"), heads(library, "minisign")
+    for name, head in page_heads.items():
         if name in PAGE_ONLY:
             continue
-        if name not in theirs:
+        if name not in library_heads:
             raise SystemExit(f"{PAGE}: minisign_c has no minisign_{name}")
-        copy = CALL.sub(lambda found: f"page_{found[1]}" if found[1] in ours else found[0], theirs[name])
+        copy = CALL.sub(lambda match: f"page_{match[1]}" if match[1] in page_heads else match[0], library_heads[name])
         for old, new in RENAMED:
             copy = copy.replace(old, new)
         page = page.replace(head, copy)
@@ -91,15 +94,15 @@ def read(path):
 
 def main(words):
     page, library, page_specs, specs = (read(path) for path in (PAGE, LIBRARY, PAGE_SPECS, SPECS))
-    made, failed = generated(page, library), 0
-    for path, old, new in ((PAGE, page, made), (PAGE_SPECS, page_specs, definitions(specs))):
+    new_page, failed = page_with_contracts(page, library), 0
+    for path, old, new in ((PAGE, page, new_page), (PAGE_SPECS, page_specs, definitions(specs))):
         if old != new and words == ["--check"]:
             failed += 1
             print(f"FAILED: {path} is not up to date: run tools/page_contracts.py")
         elif old != new:
             with open(os.path.join(TOP, path), "w", encoding="utf-8") as file:
                 file.write(new)
-    count = len(heads(made, "page"))
+    count = len(heads(new_page, "page"))
     print(f"{0 if failed else count} passed, {failed} failed")
     return int(failed > 0 or not count)
 

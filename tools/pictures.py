@@ -30,7 +30,7 @@ PUBLISHED = "RWQf6LRCGA9i53mlYecO4IzT51TGPpvWucNSCh1CBM0QTaLn73Y7GFO3"
 def choose_files(person, *names):
     """Chooses these files of the corpus together, as a user does, and waits for the verdicts."""
     person.choose(*(os.path.join(CORPUS, name) for name in names))
-    person.wait_seen("work")
+    person.wait_seen("progress")
 
 
 def take_picture(person, name, width, scheme):

@@ -2,9 +2,9 @@
 module.
 
 While the kit builds an archive for x86-64, this module saves the LLVM bitcode that the kit passes to its clang. dist.py runs the
-kit, and checks that the archive is that of dist/, byte for byte, which ties the bitcode to the proof. The same clang then compiles the
-bitcode to 64-bit WebAssembly, where addresses and `usize` have the same size and numbers in memory the same byte order
-as on x86-64. `wasm_to_c.py` translates the WebAssembly to C. The steps after the bitcode are tested and not proved.
+kit, and checks that the archive is that of dist/, byte for byte, which ties the bitcode to the proof. The same clang then
+compiles the bitcode to 64-bit WebAssembly, where addresses and `usize` have the same size and numbers in memory the same
+byte order as on x86-64. `wasm_to_c.py` translates the WebAssembly to C. The steps after the bitcode are tested and not proved.
 """
 
 import os
@@ -13,7 +13,7 @@ import subprocess
 
 import proved
 import wasm_to_c
-from wasm_object import Unread
+from wasm_object import UnsupportedModule
 
 HEAD = """/* SPDX-License-Identifier: MIT */
 /*
@@ -23,7 +23,7 @@ HEAD = """/* SPDX-License-Identifier: MIT */
  */
 """
 # A wrapper around clang, which saves the module that clang compiles.
-KEEPING = """#!/bin/sh
+CLANG_WRAPPER = """#!/bin/sh
 for word in "$@"; do
     case $word in *.bc | *.ll) cp "$word" "{saved}" ;; esac
 done
@@ -42,7 +42,7 @@ def clang():
     return os.path.join(proved.toolchain(), "bin", "clang")
 
 
-def keeping_compilers(directory):
+def compilers_that_save_module(directory):
     """Creates a directory like that of the kit's compilers, whose clang saves the module that it compiles. Returns this
     directory and the path of the saved module."""
     compilers, saved = os.path.join(directory, "compilers"), os.path.join(directory, "saved.bc")
@@ -54,19 +54,19 @@ def keeping_compilers(directory):
         if name != "clang":
             os.symlink(os.path.join(proved.toolchain(), "bin", name), os.path.join(compilers, "bin", name))
     with open(os.path.join(compilers, "bin", "clang"), "w", encoding="utf-8") as file:
-        file.write(KEEPING.format(saved=saved, clang=clang()))
+        file.write(CLANG_WRAPPER.format(saved=saved, clang=clang()))
     os.chmod(file.name, 0o755)
     return compilers, saved
 
 
 def run_clang(*words):
     """Runs the kit's clang."""
-    ran = subprocess.run([clang(), *words], stdin=subprocess.DEVNULL, stdout=subprocess.PIPE, stderr=subprocess.STDOUT)
-    if ran.returncode:
-        raise proved.NotBuilt(f"clang {' '.join(words)}: {ran.stdout.decode(errors='replace')[-800:]}")
+    process = subprocess.run([clang(), *words], stdin=subprocess.DEVNULL, stdout=subprocess.PIPE, stderr=subprocess.STDOUT)
+    if process.returncode:
+        raise proved.NotBuilt(f"clang {' '.join(words)}: {process.stdout.decode(errors='replace')[-800:]}")
 
 
-def text_of(*words, directory):
+def module_text(*words, directory):
     """Returns the text of the LLVM module that clang writes with these arguments."""
     path = os.path.join(directory, "module.ll")
     run_clang("-S", "-emit-llvm", "-o", path, *words)
@@ -80,9 +80,9 @@ def wasm_object(bitcode, directory):
     # Compiling this shows the lines `target ..` of a module for WebAssembly, which replace those of the module for x86-64.
     with open(empty, "w", encoding="utf-8") as file:
         file.write("int nothing;\n")
-    target = re.findall(r"^target .*\n", text_of(f"--target={proved.WASM}", empty, directory=directory), re.M)
+    target = re.findall(r"^target .*\n", module_text(f"--target={proved.WASM}", empty, directory=directory), re.M)
     # Only converts the bitcode to text: without optimizing, clang leaves the module as it is.
-    module = text_of(
+    module = module_text(
         "--target=x86_64-unknown-linux-gnu", "-x", "ir", bitcode, "-O0", "-Xclang", "-disable-llvm-passes",
         directory=directory,
     )
@@ -95,11 +95,11 @@ def wasm_object(bitcode, directory):
     return object_path
 
 
-def text(bitcode, names, directory):
+def c_source(bitcode, names, directory):
     """Returns the calls with these names as C."""
     with open(wasm_object(bitcode, directory), "rb") as file:
         data = file.read()
     try:
         return HEAD + wasm_to_c.translate(data, names)
-    except Unread as why:
-        raise proved.NotBuilt(f"the calls were not translated: {why}") from None
+    except UnsupportedModule as error:
+        raise proved.NotBuilt(f"the calls were not translated: {error}") from None

@@ -31,7 +31,7 @@ import sys
 
 import sources
 import trusted
-from sources import Unfit
+from sources import SourceError
 
 DOCUMENT = "docs/PROMISES.md"
 # The parts of docs/TRUSTED.md that have a headline, by their titles in the table.
@@ -88,7 +88,7 @@ class Call:
 
     def name(self):
         """Returns the path of a function, or the header of an implementation without generics and bounds."""
-        if self.item.what == "fn":
+        if self.item.keyword == "fn":
             return f"`{self.item.path}`"
         bare = re.sub(r"^impl<.*?> (?=\w)", "impl ", re.sub(r"\bwhere\b.*", "", self.item.header))
         return f"`{bare.replace('impl fmt::', 'impl ').strip()}`"
@@ -100,9 +100,9 @@ class Call:
 
     def rows(self):
         """Returns the rows of a table of promises: each paragraph, and the call with the clauses that the paragraph describes."""
-        groups = self.groups() if self.item.what == "fn" else [([doc_of(self.item)], [])]
+        groups = self.groups() if self.item.keyword == "fn" else [([doc_of(self.item)], [])]
         if not all(texts and texts[0] for texts, _ in groups):
-            raise Unfit(f"{self.item.path} has no comment that says what it promises")
+            raise SourceError(f"{self.item.path} has no comment that says what it promises")
         return [(paragraph, self.with_clauses(clauses)) for texts, clauses in groups for paragraph in texts]
 
     def row(self):
@@ -118,40 +118,40 @@ class Call:
             if clause.comment or not groups:
                 groups.append((paragraphs(clause.comment) if clause.comment else [doc_of(self.item)], []))
             elif clause.is_apart:
-                raise Unfit(f"{self.item.path}: the clause {clause.name} follows an empty line and has no comment")
+                raise SourceError(f"{self.item.path}: the clause {clause.name} follows an empty line and has no comment")
             groups[-1][1].append(clause)
         return groups
 
 
 def calls_of(library, crate):
     """Yields the calls of a crate that have a contract, in the order of the sources."""
-    read = library.crate_sources(crate)
-    types = {item.name for source in read for item in source.items
-             if item.public and item.what in ("struct", "enum", "trait", "type")}
-    for source in read:
+    sources_of_crate = library.crate_sources(crate)
+    types = {item.name for source in sources_of_crate for item in source.items
+             if item.public and item.keyword in ("struct", "enum", "trait", "type")}
+    for source in sources_of_crate:
         path = os.path.relpath(source.file, os.path.join(library.crates[crate], "src"))
         module = path.removesuffix(".rt").replace(os.sep, "::").removesuffix("::mod")
         for item in sorted(source.items, key=lambda value: value.line) if "tests" not in module.split("::") else ():
-            of_type = item.what == "impl" or item.trait
-            is_public = item.owner in types if of_type else item.public or item.block.startswith("pub trait")
+            belongs_to_type = item.keyword == "impl" or item.trait
+            is_public = item.owner in types if belongs_to_type else item.public or item.block.startswith("pub trait")
             if promises(item):
                 yield Call(item, module, is_public)
 
 
 def promises(item):
     """Returns true if a function has an `ensures`, or an implementation has a contract for callers."""
-    if item.what == "impl":
-        return any(member.what == "ghost" and member.name in CONTRACT_MEMBERS for member in item.members)
-    return item.what == "fn" and any(clause.kind.startswith("ensures") for clause in item.clauses)
+    if item.keyword == "impl":
+        return any(member.keyword == "ghost" and member.name in CONTRACT_MEMBERS for member in item.members)
+    return item.keyword == "fn" and any(clause.kind.startswith("ensures") for clause in item.clauses)
 
 
 def table(kind, crate, calls):
     """Returns the lines of a table. Calls with the same text share a row."""
     rows = {}
     for call in calls:
-        for text, carried in call.rows() if kind == "promises" else [call.row()]:
-            rows.setdefault(text.replace("|", "\\|"), {})[carried] = None
-    cells = [(text, "; ".join(carried)) for text, carried in rows.items()]
+        for text, call_and_clauses in call.rows() if kind == "promises" else [call.row()]:
+            rows.setdefault(text.replace("|", "\\|"), {})[call_and_clauses] = None
+    cells = [(text, "; ".join(call_and_clauses)) for text, call_and_clauses in rows.items()]
     head = ["", HEADS[kind].format(crate=crate), "|---|---|"]
     return head + [f"| {' | '.join(row if kind == 'promises' else row[::-1])} |" for row in cells]
 
@@ -179,28 +179,28 @@ def calls_by_table(library, crate, marks, without):
     tables = {line: [] for line in marks}
     modules = {call.module for call in calls} | {*without}
     for call in calls:
-        exact, at, line = max((call.match(place, modules), -at, line) for line, places in marks.items()
-                              for at, place in enumerate(places or [""]))
+        precision, index, line = max((call.match(place, modules), -index, line) for line, places in marks.items()
+                                     for index, place in enumerate(places or [""]))
         rest = next((line for line, places in marks.items() if not places), None)
-        if not exact and call.is_public and rest is None:
-            raise Unfit(f"{call.item.path} of {crate} ({call.module}) is in no table")
-        if exact == 3 or call.is_public:
-            tables[line if exact else rest].append((-at, call))
+        if not precision and call.is_public and rest is None:
+            raise SourceError(f"{call.item.path} of {crate} ({call.module}) is in no table")
+        if precision == 3 or call.is_public:
+            tables[line if precision else rest].append((-index, call))
     for line, places in marks.items():
-        for place in (place for at, place in enumerate(places) if at not in {at for at, _ in tables[line]}):
-            raise Unfit(f"{place} of {crate} has no call that promises anything, or another table has all of its calls")
-    return {line: [call for _, call in sorted(of_line, key=lambda value: value[0])] for line, of_line in tables.items()}
+        for place in (place for index, place in enumerate(places) if index not in {index for index, _ in tables[line]}):
+            raise SourceError(f"{place} of {crate} has no call that promises anything, or another table has all of its calls")
+    return {line: [call for _, call in sorted(entries, key=lambda value: value[0])] for line, entries in tables.items()}
 
 
 def generated_files():
     """Yields the document with new tables."""
     lines, library, by_crate, text = sources.read(DOCUMENT).split("\n"), sources.Library(), {}, []
-    found = {number: mark for number, mark in enumerate(map(MARK.match, lines)) if mark}
-    for number, mark in found.items():
+    marks_by_line = {number: mark for number, mark in enumerate(map(MARK.match, lines)) if mark}
+    for number, mark in marks_by_line.items():
         marks, without = by_crate.setdefault(mark["crate"], ({}, []))
         marks[number] = words(mark["places"])
         without += words(mark["without"])
-    tables = {number: table(found[number]["kind"], crate, calls) + [""] for crate, (marks, without) in by_crate.items()
+    tables = {number: table(marks_by_line[number]["kind"], crate, calls) + [""] for crate, (marks, without) in by_crate.items()
                for number, calls in calls_by_table(library, crate, marks, without).items()}
     tables.update({number: headlines(library) for number, line in enumerate(lines) if line == HEADLINES_MARK})
     is_old_table = False

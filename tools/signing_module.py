@@ -38,7 +38,7 @@ LINKING = [
 ]
 
 
-def compiled():
+def compile_module():
     """Returns the bytes of the module."""
     with tempfile.TemporaryDirectory(prefix="signing-module-") as directory:
         module_path, clang = os.path.join(directory, "made.wasm"), os.environ.get("CLANG", "clang")
@@ -72,12 +72,12 @@ def main(words):
     if len(words) != 1:
         sys.exit(__doc__)
     try:
-        letters = base64.b64encode(compiled()).decode()
-    except (OSError, subprocess.CalledProcessError) as why:
-        sys.exit(f"tools/signing_module.py: building the module needs clang and lld (Debian packages clang and lld): {why}")
+        encoded = base64.b64encode(compile_module()).decode()
+    except (OSError, subprocess.CalledProcessError) as error:
+        sys.exit(f"tools/signing_module.py: building the module needs clang and lld (Debian packages clang and lld): {error}")
     with open(words[0], "w", encoding="ascii") as file:
         file.write("// SPDX-License-Identifier: MIT\n// Made by tools/signing_module.py: the calls for secret keys, in base64.\n"
-                   f'export const SIGNING_MODULE = "{letters}";\n')
+                   f'export const SIGNING_MODULE = "{encoded}";\n')
 
 
 if __name__ == "__main__":

@@ -35,7 +35,7 @@ USE = re.compile(r"use\s+(?P<module>[^\s;{]+?)(?:\.\{(?P<names>[^}]*)\}|\s+as\s+
 NAME = re.compile(r"[^\W\d]\w*")
 
 
-class Unfit(Exception):
+class SourceError(Exception):
     """The sources are inconsistent, or have a form that these scripts cannot read."""
 
 
@@ -48,27 +48,27 @@ def write_or_check(generated_files):
     try:
         for path, text in generated_files():
             if not is_check:
-                with open(os.path.join(ROOT, path), "w", encoding="utf-8") as opened:
-                    opened.write(text)
+                with open(os.path.join(ROOT, path), "w", encoding="utf-8") as file:
+                    file.write(text)
             checks.check(read(path) == text, path, f"it is not up to date: run {sys.argv[0]}")
-    except (Unfit, KeyError, needs.Missing) as why:
-        checks.check(False, sys.argv[0], why)
+    except (SourceError, KeyError, needs.Missing) as error:
+        checks.check(False, sys.argv[0], error)
     return checks.end()
 
 
 def read(path):
     """Returns the text of a file. A relative path is relative to the repository."""
-    with open(os.path.join(ROOT, path), encoding="utf-8") as opened:
-        return opened.read()
+    with open(os.path.join(ROOT, path), encoding="utf-8") as file:
+        return file.read()
 
 
 def files_below(directory, ending=""):
     """Returns the files below a directory with this ending, sorted by name, except those that a build makes."""
-    found = []
-    for below, directories, names in os.walk(directory):
+    files = []
+    for parent, directories, names in os.walk(directory):
         directories[:] = sorted(name for name in directories if name not in ("out", ".git", "__pycache__"))
-        found += [os.path.join(below, name) for name in sorted(names) if name.endswith(ending)]
-    return found
+        files += [os.path.join(parent, name) for name in sorted(names) if name.endswith(ending)]
+    return files
 
 
 # ---------------------------------------------------------------------------------------------------------------
@@ -86,9 +86,9 @@ Source = namedtuple("Source", "file text items imports")
 
 @dataclass(eq=False)
 class Item:
-    """An item of a `.rt` file. `what` is its keyword: `fn`, `trait`, `impl`, `struct`, `enum`, `const`, `ghost` and so on."""
+    """An item of a `.rt` file. `keyword` is `fn`, `trait`, `impl`, `struct`, `enum`, `const`, `ghost` and so on."""
 
-    what: str
+    keyword: str
     name: str
     file: str
     line: int
@@ -100,7 +100,7 @@ class Item:
     text: str = ""
     # Offsets in the file: the begin of the comment, the end of the name, the begin of a function body (or 0), and the end.
     begin: int = 0
-    named: int = 0
+    name_end: int = 0
     body: int = 0
     end: int = 0
     # The type or trait to which the item belongs, the trait that is implemented, and the header of the enclosing block.
@@ -132,19 +132,19 @@ def trait_and_type(header):
     while bare != previous:
         previous, bare = bare, re.sub(r"<[^<>]*>", "", bare)
     trait, _, kind = re.sub(r"\bwhere\b.*", "", bare).rpartition(" for ")
-    return [(NAME.findall(re.sub("[&']", " ", each)) or [each.strip()])[-1] for each in (trait, kind)]
+    return [(NAME.findall(re.sub("[&']", " ", path)) or [path.strip()])[-1] for path in (trait, kind)]
 
 
 def take_use(imports, text):
     """Adds the names of one `use` of antt to the imports."""
-    found = USE.search(text)
-    if found and found["names"] is not None:
-        for name in re.split(r"[,\s]\s*" if " as " not in found["names"] else r",\s*", found["names"]):
-            source, _, here = name.strip().partition(" as ")
+    match = USE.search(text)
+    if match and match["names"] is not None:
+        for name in re.split(r"[,\s]\s*" if " as " not in match["names"] else r",\s*", match["names"]):
+            source, _, alias = name.strip().partition(" as ")
             if source:
-                imports[here or source] = (found["module"], source)
-    elif found:
-        imports[found["alias"] or found["module"].rpartition(".")[2]] = (found["module"], "")
+                imports[alias or source] = (match["module"], source)
+    elif match:
+        imports[match["alias"] or match["module"].rpartition(".")[2]] = (match["module"], "")
 
 
 class Reader:
@@ -156,80 +156,83 @@ class Reader:
         # The text with spaces in place of comments and strings, and for each opening bracket the offset behind its closing one.
         self.bare = OPAQUE.sub(lambda value: re.sub(r"[^\n]", " ", value[0]), self.text)
         self.closed, opened = {}, []
-        for found in re.finditer(r"[(\[{]|[)\]}]", self.bare):
-            if found[0] in "([{":
-                opened.append(found.start())
+        for match in re.finditer(r"[(\[{]|[)\]}]", self.bare):
+            if match[0] in "([{":
+                opened.append(match.start())
             elif opened:
-                self.closed[opened.pop()] = found.end()
+                self.closed[opened.pop()] = match.end()
 
-    def after(self, ends, at):
+    def after(self, pattern, offset):
         """Returns the offset of the first match of the group `end` of a pattern from `at` on, outside of brackets."""
-        while found := ends.search(self.bare, at):
-            if found.groupdict().get("end"):
-                return found.start()
-            at = self.closed.get(found.start(), len(self.text))
+        while match := pattern.search(self.bare, offset):
+            if match.groupdict().get("end"):
+                return match.start()
+            offset = self.closed.get(match.start(), len(self.text))
         return len(self.text)
 
-    def above(self, form, at):
+    def above(self, pattern, offset):
         """Returns the match of a pattern that ends at an offset."""
-        return form.search(self.text, max(0, at - 5000), at)
+        return pattern.search(self.text, max(0, offset - 5000), offset)
 
     def lines(self, begin, end):
         """Returns the text from the line of one offset to another offset, without its indentation."""
         return textwrap.dedent(self.text[self.text.rfind("\n", 0, begin) + 1:end])
 
-    def end_of_statement(self, at):
-        return self.after(re.compile(r"[(\[{]|(?P<end>;)"), at) + 1
+    def end_of_statement(self, offset):
+        return self.after(re.compile(r"[(\[{]|(?P<end>;)"), offset) + 1
 
     def read(self):
-        at, blocks = 0, []
-        while found := ITEM.search(self.bare, at):
-            blocks = [(end, block) for end, block in blocks if found.start() < end]
-            at = self.item(found, blocks)
+        offset, blocks = 0, []
+        while match := ITEM.search(self.bare, offset):
+            blocks = [(end, block) for end, block in blocks if match.start() < end]
+            offset = self.item(match, blocks)
         return self.source
 
-    def item(self, found, blocks):
+    def item(self, match, blocks):
         """Reads an item. Returns the offset at which to continue: behind the item, or inside it if it contains items."""
-        text, word, begin = self.text, found["word"], found.end() - len(found[0].lstrip())
+        text, word, begin = self.text, match["word"], match.end() - len(match[0].lstrip())
         if word in ("ghost use", "use"):
             end = self.end_of_statement(begin)
             if word == "ghost use":
                 take_use(self.source.imports, text[begin:end].rstrip().rstrip(";"))
             return end
         if word.endswith("!") or word == "ghost impl":
-            return self.closed[re.compile(r"[(\[{]").search(self.bare, found.end()).start()]
-        stop, above, name = self.after(HEADER_END, found.end()), self.above(ABOVE_ITEM, begin), NAME.search(text, found.end())
-        comment, is_public = above["comment"] if above else "", (found["public"] or "").strip() == "pub"
+            return self.closed[re.compile(r"[(\[{]").search(self.bare, match.end()).start()]
+        header_end, above, name = self.after(HEADER_END, match.end()), self.above(ABOVE_ITEM, begin), NAME.search(text, match.end())
+        comment, is_public = above["comment"] if above else "", (match["public"] or "").strip() == "pub"
         item = Item(word, name[0] if name else "", self.source.file, text.count("\n", 0, begin) + 1, is_public,
-                    in_one_line(text[begin:stop]), comment)
+                    in_one_line(text[begin:header_end]), comment)
         if blocks:
             block = blocks[-1][1]
             block.members.append(item)
-            if block.what != "mod":
+            if block.keyword != "mod":
                 item.owner, item.trait, item.block = block.owner or block.name, block.trait, block.header
-        has_body = word in ("impl", "trait", "mod", "struct", "enum", "union") and self.bare.startswith("{", stop)
-        end = self.read_fn(item, stop) if word == "fn" else self.closed[stop] if has_body else self.end_of_statement(stop)
+        has_body = word in ("impl", "trait", "mod", "struct", "enum", "union") and self.bare.startswith("{", header_end)
+        if word == "fn":
+            end = self.read_fn(item, header_end)
+        else:
+            end = self.closed[header_end] if has_body else self.end_of_statement(header_end)
         if word == "impl":
             item.trait, item.owner = trait_and_type(item.header)
             item.name = f"{item.trait} for {item.owner}"
-        item.begin, item.named, item.end = begin - len(comment.lstrip()), name.end() if name else begin, end
+        item.begin, item.name_end, item.end = begin - len(comment.lstrip()), name.end() if name else begin, end
         item.text = self.lines(item.begin, end)
         self.source.items.append(item)
         if word in ("impl", "trait", "mod") and has_body:
             blocks.append((end, item))
-            return stop + 1
+            return header_end + 1
         return end
 
-    def read_fn(self, item, at):
-        while found := CLAUSE.match(self.bare, at):
-            at, begin = self.closed[found.end()], found.start("kind")
+    def read_fn(self, item, offset):
+        while match := CLAUSE.match(self.bare, offset):
+            offset, begin = self.closed[match.end()], match.start("kind")
             above = self.above(ABOVE, begin)
             comment = (above["comment"].strip(), bool(above["blank"])) if above else ("", False)
-            text, whole = self.text[found.end() + 1:at - 1].strip(), self.lines(begin, at)
-            item.clauses.append(Clause(found["kind"], found["name"], text, whole, *comment, begin, at))
-        at = re.compile(r"\s*").match(self.bare, at).end()
-        item.body = at if self.bare.startswith("{", at) else 0
-        return self.closed[at] if item.body else at + 1
+            text, whole = self.text[match.end() + 1:offset - 1].strip(), self.lines(begin, offset)
+            item.clauses.append(Clause(match["kind"], match["name"], text, whole, *comment, begin, offset))
+        offset = re.compile(r"\s*").match(self.bare, offset).end()
+        item.body = offset if self.bare.startswith("{", offset) else 0
+        return self.closed[offset] if item.body else offset + 1
 
 
 @functools.lru_cache(maxsize=None)
@@ -281,15 +284,15 @@ def read_module(file):
             if not raw.startswith(indent):
                 line, indent = raw, ""
             is_new = not line.startswith((" ", "}", ")"))
-            other, begins = is_new and DIRECTIVE.match(line), is_new and KEYWORDS.match(line) and BEGINS.match(line)
-            if other and other["word"] == "use":
-                for imports in (module.imports, module.passed_on) if "pub" in other["before"] else (module.imports,):
+            directive, definition = is_new and DIRECTIVE.match(line), is_new and KEYWORDS.match(line) and BEGINS.match(line)
+            if directive and directive["word"] == "use":
+                for imports in (module.imports, module.passed_on) if "pub" in directive["before"] else (module.imports,):
                     take_use(imports, line)
-            if other:
+            if directive:
                 current = None
-            elif begins:
-                current = Definition(begins["name"], file, number - len(comment), begins["kind"] or "word", [line], comment)
-                module.definitions.setdefault(begins["name"], current)
+            elif definition:
+                current = Definition(definition["name"], file, number - len(comment), definition["kind"] or "word", [line], comment)
+                module.definitions.setdefault(definition["name"], current)
             elif current is not None:
                 current.lines.append(line)
         comment = []
@@ -350,9 +353,9 @@ class Library:
             if os.path.exists(file):
                 return read_module(file)
         above, _, last = name.rpartition(".")
-        found = self.module(above) if above.count(".") > 1 else None
-        passed = found.passed_on.get(last) if found else None
-        return self.module(passed[0]) if passed and not passed[1] else None
+        parent = self.module(above) if above.count(".") > 1 else None
+        re_export = parent.passed_on.get(last) if parent else None
+        return self.module(re_export[0]) if re_export and not re_export[1] else None
 
     def declared(self, module, name):
         """Returns the item of a `.rt` file to which a name in a module `declared` refers, or None."""
@@ -365,7 +368,7 @@ class Library:
                 base = os.path.join(directory, "src", *path[:length])
                 for file in filter(os.path.exists, (base + ".rt", os.path.join(base, "lib.rt"))):
                     for item in read_source(file).items:
-                        if item.what in ("struct", "enum", "trait", "const", "type", "union") and item.name in (
+                        if item.keyword in ("struct", "enum", "trait", "const", "type", "union") and item.name in (
                             *path[length:],
                             name,
                         ):
@@ -376,20 +379,21 @@ class Library:
         """Yields a module and a name in it, and then the module and the name that it imports, up to the definition."""
         for _ in range(8):
             yield module, name
-            found = self.module(module)
-            module, name = {**found.imports, **found.passed_on}.get(name, ("", "")) if found else ("", "")
+            parsed_module = self.module(module)
+            module, name = {**parsed_module.imports, **parsed_module.passed_on}.get(name, ("", "")) if parsed_module else ("", "")
             if not name:
                 return
 
     @functools.lru_cache(maxsize=None)
     def resolve(self, module, name):
         """Returns the definition, or the item of a `.rt` file, that a name in a module refers to, or None."""
-        found = (self.declared(at, each) or self.definitions_of(at).get(each) for at, each in self.chain(module, name))
-        return next(filter(None, found), None)
+        targets = (self.declared(module_name, imported_name) or self.definitions_of(module_name).get(imported_name)
+                   for module_name, imported_name in self.chain(module, name))
+        return next(filter(None, targets), None)
 
     def definitions_of(self, module):
-        found = self.module(module)
-        return found.definitions if found else {}
+        parsed_module = self.module(module)
+        return parsed_module.definitions if parsed_module else {}
 
     def named_in(self, text, imports, definitions):
         """Yields the definitions to which a text refers, in its own file (`definitions`) and in the imports: the name in the

@@ -25,7 +25,7 @@ import textwrap
 from collections import namedtuple
 
 import sources
-from sources import Definition, Unfit
+from sources import Definition, SourceError
 
 DOCUMENT = "docs/TRUSTED.md"
 FACTS = "proofs/Facts.antt"
@@ -79,11 +79,11 @@ OF_FAULTS = re.compile(r"/specs/(?:Fault|Faults|KeyIds)\.antt|/src/(?:errors|fau
 
 def function_of(library, crate, path, clause):
     """Returns the function of a crate with this path, which must have a clause of this name."""
-    found = [item for source in library.crate_sources(crate) for item in source.items
-             if item.what == "fn" and item.path == path and item.clause(clause)]
-    if len(found) != 1:
-        raise Unfit(f"{len(found)} functions {path} of {crate} with a clause {clause or 'without a name'}")
-    return found[0]
+    functions = [item for source in library.crate_sources(crate) for item in source.items
+                 if item.keyword == "fn" and item.path == path and item.clause(clause)]
+    if len(functions) != 1:
+        raise SourceError(f"{len(functions)} functions {path} of {crate} with a clause {clause or 'without a name'}")
+    return functions[0]
 
 
 # The directories of the kit's logic, which its libraries are built on.
@@ -121,60 +121,60 @@ class Trusted:
     def roots(self, part):
         """Returns the definitions that the clauses of a part name: first the one with which it begins, and then traits. The
         first part needs no traits: its section on notation explains which signatures a scheme accepts."""
-        named, traits = [], []
+        definitions, traits = [], []
         for function, name in self.clauses[part]:
             for clause in function.clause(name):
-                named += self.named_definitions(clause.text, sources.read_source(function.file).imports)
+                definitions += self.named_definitions(clause.text, sources.read_source(function.file).imports)
                 traits += self.traits_named(clause.text, function) if part is not VERDICT else []
             # The models of the types that the function takes or returns.
             names = {*re.findall(r"\w+", function.header), function.owner}
-            named += [item for item in self.items("impl") if item.trait == "Model" and item.owner in names]
-        begins = [definition for definition in self.reached(named) if part.first and definition.name == part.first]
-        return [*begins, *named, *traits]
+            definitions += [item for item in self.items("impl") if item.trait == "Model" and item.owner in names]
+        begins = [definition for definition in self.reached(definitions) if part.first and definition.name == part.first]
+        return [*begins, *definitions, *traits]
 
-    def reached(self, named):
+    def reached(self, pending):
         """Returns the definitions of the repository that these reach."""
-        found = {}
-        while named:
-            definition, *named = named
-            if definition not in found and self.library.is_in_repository(definition.file):
-                found[definition] = None
-                named += self.named_by(definition)
-        return found
+        reached = {}
+        while pending:
+            definition, *pending = pending
+            if definition not in reached and self.library.is_in_repository(definition.file):
+                reached[definition] = None
+                pending += self.named_by(definition)
+        return reached
 
     def follow(self, definition, part):
         """Adds a definition to a part, and then the definitions that it names, in that order."""
-        is_own = self.library.is_in_repository(definition.file)
+        is_in_repository = self.library.is_in_repository(definition.file)
         if definition not in self.parts:
-            self.parts[definition] = part if is_own else KIT
-            if not is_own:
+            self.parts[definition] = part if is_in_repository else KIT
+            if not is_in_repository:
                 self.of_kit[definition] = part
-            for each in self.named_by(definition):
-                self.follow(each, part)
+            for other in self.named_by(definition):
+                self.follow(other, part)
 
     def end_with_faults(self, part):
         """Moves the definitions of errors to the end of a part."""
-        for definition in [each for each, its_part in self.parts.items() if its_part is part and is_of_faults(each)]:
+        for definition in [each for each, own_part in self.parts.items() if own_part is part and is_of_faults(each)]:
             self.parts[definition] = self.parts.pop(definition)
 
-    def items(self, what):
+    def items(self, keyword):
         return (item for crate in self.library.crates for source in self.library.crate_sources(crate)
-                for item in source.items if item.what == what)
+                for item in source.items if item.keyword == keyword)
 
     def named_definitions(self, text, imports, definitions=()):
         """Returns the imported definitions, and those in `definitions`, that a text names, in the order of the text."""
-        found = []
+        places_and_definitions = []
         for name, module, source, definition in self.library.named_in(text, imports, dict(definitions)):
             definition = definition or self.data_of(module, source)
             if definition is not None:
-                found.append((place_in(text, name), definition))
+                places_and_definitions.append((place_in(text, name), definition))
                 if is_word_of_kit(definition, self.library) and definition.name != name:
                     self.renamed[name] = definition.name
             elif [*self.library.chain(module, source)][-1][0].startswith("Prim."):
                 self.built_in.add(name)
             else:
                 self.unknown.add(f"{module}.{source}")
-        return [each for _, each in sorted(found, key=lambda value: value[0])]
+        return [each for _, each in sorted(places_and_definitions, key=lambda value: value[0])]
 
     def data_of(self, module, name):
         """Returns the data type that has a constructor of this name, or None."""
@@ -217,15 +217,15 @@ def is_word_of_kit(definition, library):
 
 def signature_of(definition):
     """Returns the text before the first clause of a word, or all of a record."""
-    later = next((at for at, line in enumerate(definition.lines) if at and not line.startswith(" ")), None)
-    return "\n".join(definition.lines[:later])
+    next_line = next((number for number, line in enumerate(definition.lines) if number and not line.startswith(" ")), None)
+    return "\n".join(definition.lines[:next_line])
 
 
 def place_in(text, name):
     """Returns the offset at which a text first contains a name. For an operator it is that of its longest part."""
     word = max(name.split("◌"), key=len)
-    found = re.search(rf"(?<![\w'-]){re.escape(word)}(?![\w'-])", text) if word else None
-    return found.start() if found else len(text)
+    match = re.search(rf"(?<![\w'-]){re.escape(word)}(?![\w'-])", text) if word else None
+    return match.start() if match else len(text)
 
 
 # ---------------------------------------------------------------------------------------------------------------
@@ -237,7 +237,7 @@ def text_of(definition):
     if isinstance(definition, Definition):
         return "\n".join([*definition.comment, *definition.lines]).rstrip()
     text = re.sub(r"(?m)^ *#\[.*\]\n", "", definition.text)
-    if definition.what == "enum" and OF_FAULTS.search(definition.file):
+    if definition.keyword == "enum" and OF_FAULTS.search(definition.file):
         # Only the names of the variants: the functions say when each error is returned.
         lines = [line.strip() for line in text.strip().split("\n")]
         first, *names, last = [line for line in lines if not line.startswith("///")]
@@ -292,10 +292,10 @@ class Facts:
             for definition in sources.read_module(file).definitions.values() if os.path.exists(file) else ():
                 if definition.text.startswith("pub ") and (subject := self.subject_of(definition)):
                     comment = " ".join(line.removeprefix("-- ") for line in definition.comment)
-                    printed = re.search(r"\((RFC \d+[^)]*)\)", comment)
-                    shown = f"`{definition.name}`" + (f" ({printed[1]})" if printed else "")
-                    of_part = self.about.setdefault(trusted.parts[subject], {})
-                    of_part.setdefault(file, {}).setdefault(subject, []).append(shown)
+                    standard = re.search(r"\((RFC \d+[^)]*)\)", comment)
+                    fact_text = f"`{definition.name}`" + (f" ({standard[1]})" if standard else "")
+                    facts_of_part = self.about.setdefault(trusted.parts[subject], {})
+                    facts_of_part.setdefault(file, {}).setdefault(subject, []).append(fact_text)
 
     def subject_of(self, fact):
         """Returns the first printed definition on the left side of the equation of a fact. It may be named through other
@@ -304,14 +304,14 @@ class Facts:
         while texts:
             text = texts.pop(0)
             for token in NAME_OF.findall(re.sub(r'"[^"]*"', "", text)):
-                own = module.definitions.get(token)
-                if own and token not in seen:
+                local = module.definitions.get(token)
+                if local and token not in seen:
                     seen.add(token)
-                    texts.append(own.text[len(signature_of(own)):])
+                    texts.append(local.text[len(signature_of(local)):])
                 imported = module.imports.get(token, ("", ""))
-                known = self.trusted.library.resolve(*imported) if imported[1] else None
-                if self.trusted.parts.get(known, KIT) is not KIT and isinstance(known, Definition):
-                    return known
+                resolved = self.trusted.library.resolve(*imported) if imported[1] else None
+                if self.trusted.parts.get(resolved, KIT) is not KIT and isinstance(resolved, Definition):
+                    return resolved
         return None
 
     def of(self, part, linked):
@@ -330,16 +330,16 @@ class Writer:
 
     def by_hand(self, number, counts):
         """Returns the hand-written title of a part and the text up to its first clause or list, with new numbers."""
-        found = re.search(rf"(?ms)^## {number}\. .*?(?=\n\n(?:`\S+` in \[|- ))", self.old)
-        if not found:
-            raise Unfit(f"{DOCUMENT} has no part {number}")
-        return re.sub(r"\d+ definitions on \d+ lines", f"{counts[0]} definitions on {counts[1]} lines", found[0])
+        match = re.search(rf"(?ms)^## {number}\. .*?(?=\n\n(?:`\S+` in \[|- ))", self.old)
+        if not match:
+            raise SourceError(f"{DOCUMENT} has no part {number}")
+        return re.sub(r"\d+ definitions on \d+ lines", f"{counts[0]} definitions on {counts[1]} lines", match[0])
 
     def linked(self, file):
         """Returns a Markdown link to a file. Its target is printed after the parts."""
-        shown = self.library.relative_path(file)
-        name = re.sub(r"^crates/|specs/(?=[^/]+$)|\.antt$", "", shown)
-        self.links[name] = f"[{name}]: ../{shown}"
+        path = self.library.relative_path(file)
+        name = re.sub(r"^crates/|specs/(?=[^/]+$)|\.antt$", "", path)
+        self.links[name] = f"[{name}]: ../{path}"
         return f"[{name}]"
 
     def clauses_of(self, part):
@@ -349,9 +349,9 @@ class Writer:
 
     def in_order(self, definitions):
         """Yields the texts of definitions. Consecutive definitions of one file share a heading."""
-        for file, of_file in itertools.groupby(definitions, key=lambda value: value.file):
+        for file, file_definitions in itertools.groupby(definitions, key=lambda value: value.file):
             yield self.linked(file)
-            yield block_of("antt" if file.endswith(".antt") else "rust", of_file)
+            yield block_of("antt" if file.endswith(".antt") else "rust", file_definitions)
 
     def in_full(self, definitions):
         """Yields the texts of definitions of the kit, and explanations for readers without the kit."""
@@ -359,8 +359,8 @@ class Writer:
                "file, in the order of their first use. The paths are relative to `rattle/` in the kit.")
         for file in dict.fromkeys(definition.file for definition in definitions):
             yield f"`{self.library.relative_path(file)}`:"
-            of_file = [definition for definition in definitions if definition.file == file]
-            yield block_of("antt" if file.endswith(".antt") else "rust", of_file, text_of_kit)
+            file_definitions = [definition for definition in definitions if definition.file == file]
+            yield block_of("antt" if file.endswith(".antt") else "rust", file_definitions, text_of_kit)
         renamed = ", ".join(f"`{name}` is `{own}`" for name, own in sorted(self.trusted.renamed_first.items()))
         yield f"Some definitions are imported under another name: {renamed}."
         yield f"These names have no definition, because the logic itself has them: {names_of(self.trusted.built_in_first)}."
@@ -383,12 +383,12 @@ class Writer:
     def part(self, number, part):
         """Returns the text of a part: its clauses, its definitions in the order of use, the names of those that are not
         printed, and the facts."""
-        definitions = [each for each, its_part in self.trusted.parts.items() if its_part is part]
+        definitions = [each for each, definition_part in self.trusted.parts.items() if definition_part is part]
         in_full = [each for each, first_part in self.trusted.of_kit.items() if first_part is VERDICT]
         if part is KIT:
             definitions = [each for each in definitions if each not in in_full]
         in_full = in_full if part is VERDICT else []
-        shown = [definition for definition in definitions if not re.search(part.files, definition.file)]
+        printed = [definition for definition in definitions if not re.search(part.files, definition.file)]
         clauses = [text for _, text in self.clauses_of(part)]
         self.counts[number] = (len(definitions) + len(in_full),
                                lines_of([*clauses, *map(text_of, definitions), *map(text_of_kit, in_full)]))
@@ -397,10 +397,10 @@ class Writer:
             return "\n\n".join([*pieces, self.by_name(definitions, self.library.relative_path), self.built_in()])
         pieces += [f"`{function.path}` in {self.linked(function.file)}:\n\n```rust\n{text}\n```"
                    for function, text in self.clauses_of(part)]
-        pieces += self.in_order(shown)
-        if shown != definitions:
-            named = (definition for definition in definitions if definition not in shown)
-            pieces += ["By name:", self.by_name(named, self.linked)]
+        pieces += self.in_order(printed)
+        if printed != definitions:
+            listed = (definition for definition in definitions if definition not in printed)
+            pieces += ["By name:", self.by_name(listed, self.linked)]
         pieces += self.facts.of(part, self.linked)
         return "\n\n".join([*pieces, *(self.in_full(in_full) if in_full else ())])
 
@@ -416,9 +416,9 @@ def generated_files():
     """Yields the document."""
     trusted = Trusted()
     if trusted.library.kit is None:
-        raise Unfit("the Rattle kit is not installed: there is no command rt")
+        raise SourceError("the Rattle kit is not installed: there is no command rt")
     if trusted.unknown:
-        raise Unfit(f"these names have no definition: {', '.join(sorted(trusted.unknown))}")
+        raise SourceError(f"these names have no definition: {', '.join(sorted(trusted.unknown))}")
     yield DOCUMENT, Writer(trusted, sources.read(DOCUMENT)).document()
 
 

@@ -20,7 +20,7 @@ from collections import namedtuple
 
 import manual
 import sources
-from sources import Unfit, read
+from sources import SourceError, read
 
 # A program, its document, the directory of its sources, the file that defines its exit statuses, and its placeholders, which a
 # user replaces.
@@ -67,12 +67,12 @@ def sections(program):
     """Returns the sections of the text: the lines of the usage, two paragraphs, and sections of entries."""
     _, *parts = re.split(r"(?m)^== (\w+)\n", read(file_of(program, "usage.txt")))
     text = dict(zip(parts[::2], parts[1::2]))
-    found = {"usage": text["usage"].strip().split("\n")}
-    found.update({name: in_one_line(text[name]) for name in ("about", "order")})
+    sections_by_name = {"usage": text["usage"].strip().split("\n")}
+    sections_by_name.update({name: in_one_line(text[name]) for name in ("about", "order")})
     for name in filter(text.__contains__, HEADS):
         entries = re.findall(r"(?m)^(\S.*)\n((?:    .*\n|\n)+)", text[name])
-        found[name] = [Entry(word, [*map(in_one_line, body.strip().split("\n\n"))]) for word, body in entries]
-    return found
+        sections_by_name[name] = [Entry(word, [*map(in_one_line, body.strip().split("\n\n"))]) for word, body in entries]
+    return sections_by_name
 
 
 def in_one_line(text):
@@ -82,12 +82,12 @@ def in_one_line(text):
 def compare(program, text):
     """Fails if the text has other options or exit statuses than the program."""
     options, statuses = read(file_of(program, "options.c")), read(program.statuses)
-    for name, form, known in (("options", r"(?<!\S)--?\w[\w-]*", re.findall(r'"(--?\w[\w-]*)"', options)),
-                              ("statuses", r"\d+", re.findall(r"[A-Z] = (\d|10)\b", statuses))):
-        written = {word for entry in text[name] for word in re.findall(form, entry.name)}
+    for name, pattern, known in (("options", r"(?<!\S)--?\w[\w-]*", re.findall(r'"(--?\w[\w-]*)"', options)),
+                                 ("statuses", r"\d+", re.findall(r"[A-Z] = (\d|10)\b", statuses))):
+        written = {word for entry in text[name] for word in re.findall(pattern, entry.name)}
         expected = {*known} - UNDOCUMENTED
         if written != expected:
-            raise Unfit(f"{program.name}: the text and the program differ in {name}: {', '.join(sorted(written ^ expected))}")
+            raise SourceError(f"{program.name}: the text and the program differ in {name}: {', '.join(sorted(written ^ expected))}")
 
 
 def without_links(text):
@@ -101,19 +101,19 @@ def table_of(name, entries):
     """Yields the lines of a table. Names are quoted, and numbers are not."""
     yield from (HEADS[name], "|---|---|")
     for word, (first, *_) in entries:
-        shown = word if word.isdigit() else ", ".join(f"`{part}`" for part in word.split(", "))
-        yield f"| {shown} | {first} |"
+        name_cell = word if word.isdigit() else ", ".join(f"`{part}`" for part in word.split(", "))
+        yield f"| {name_cell} | {first} |"
 
 
 def document(program, text):
     """Returns the document with new text between its marks."""
     page_text = read(program.document)
-    shown = {"about": [text["about"]], **{name: [*table_of(name, text[name])] for name in HEADS if name in text}}
-    shown["options"] = [*(f"    {line}" for line in text["usage"]), "", *shown["options"], "", text["order"]]
-    for name, lines in shown.items():
+    lines_by_section = {"about": [text["about"]], **{name: [*table_of(name, text[name])] for name in HEADS if name in text}}
+    lines_by_section["options"] = [*(f"    {line}" for line in text["usage"]), "", *lines_by_section["options"], "", text["order"]]
+    for name, lines in lines_by_section.items():
         begin, end = f"<!-- {name} -->\n\n", f"\n\n<!-- end of {name} -->"
         if page_text.count(begin) != 1 or page_text.count(end) != 1:
-            raise Unfit(f"{program.document} must have the lines {begin.strip()} and {end.strip()} once each")
+            raise SourceError(f"{program.document} must have the lines {begin.strip()} and {end.strip()} once each")
         page_text = page_text.partition(begin)[0] + begin + "\n".join(lines) + end + page_text.partition(end)[2]
     return page_text
 
@@ -123,29 +123,29 @@ def document(program, text):
 
 def roff(program, text):
     """Returns the lines of a text in roff. Quoted words are bold, and placeholders are in italics."""
-    place = re.compile(rf"\b(?:{'|'.join(program.places)})\b")
-    pieces = [manual.escaped(piece).removeprefix("\\&") for piece in re.split(r"`([^`]*)`", without_links(text))]
-    for at, piece in enumerate(pieces):
-        pieces[at] = f"\\fB{piece}\\fR" if at % 2 else place.sub(r"\\fI\g<0>\\fR", piece)
+    placeholder = re.compile(rf"\b(?:{'|'.join(program.places)})\b")
+    pieces = [manual.escape_roff(piece).removeprefix("\\&") for piece in re.split(r"`([^`]*)`", without_links(text))]
+    for index, piece in enumerate(pieces):
+        pieces[index] = f"\\fB{piece}\\fR" if index % 2 else placeholder.sub(r"\\fI\g<0>\\fR", piece)
     lines = textwrap.wrap("".join(pieces), 80, break_on_hyphens=False, break_long_words=False)
     return ["\\&" + line if line.startswith(".") else line for line in lines]
 
 
-def marked(program, line):
+def quote_options(program, line):
     """Quotes the options and the name of the program in a line."""
     return re.sub(rf"(?<!\S)(?:--?[\w-]*|{program.name})(?=[,\s]|$)", r"`\g<0>`", line)
 
 
 def section_of(program, entries):
     for word, paragraphs in entries:
-        yield from (".TP", *roff(program, marked(program, word)))
+        yield from (".TP", *roff(program, quote_options(program, word)))
         for number, paragraph in enumerate(paragraphs):
             yield from [".IP"] * bool(number) + roff(program, paragraph)
 
 
 def synopsis(program, usage):
     for number, line in enumerate(usage):
-        yield from [".PP"] * bool(number) + roff(program, marked(program, line))
+        yield from [".PP"] * bool(number) + roff(program, quote_options(program, line))
 
 
 def name_of(program, about):
@@ -172,14 +172,14 @@ def page(program, text):
         section, end = f".SH {name}\n" + "\n".join(lines) + "\n", r"\.PP$" if name == "DESCRIPTION" else r"\.SH "
         page_text, count = re.subn(rf"(?ms)^\.SH {name}\n.*?(?=^{end})", lambda _: section, page_text)
         if count != 1:
-            raise Unfit(f"{page_of(program)} has {count} sections {name}")
+            raise SourceError(f"{page_of(program)} has {count} sections {name}")
     return page_text
 
 
 # ---- The output of --help ----
 
 
-def helped(entries, indent):
+def help_lines(entries, indent):
     """Yields the lines of entries, each with its name in front."""
     for word, (first, *_) in entries:
         lines = textwrap.wrap(without_links(first), COLUMNS - indent, break_on_hyphens=False)
@@ -189,11 +189,11 @@ def helped(entries, indent):
             yield ("" if number else f"  {word}").ljust(indent if line else 0) + line
 
 
-def in_c(name, lines, before=""):
+def string_macro(name, lines, before=""):
     """Returns the definition of a string macro in C. The programs write `before` in front of it, in the same string literal."""
     text = "\n".join(lines) + "\n"
     if len(before + text) > MAX_TEXT:
-        raise Unfit(f"{name} has {len(before + text)} characters, which is more than C allows in a string literal")
+        raise SourceError(f"{name} has {len(before + text)} characters, which is more than C allows in a string literal")
     quoted = [line.replace("\\", "\\\\").replace('"', '\\"') for line in lines]
     return f"#define {name} \\\n" + " \\\n".join(f'    "{line}\\n"' for line in quoted) + "\n"
 
@@ -203,15 +203,15 @@ def header(program, text):
     usage, *others = text["usage"]
     head = HEAD.format(name=program.name, guard=f"{program.directory.removeprefix('c/').upper()}_USAGE_H")
     about, order = (textwrap.wrap(text[name], COLUMNS) for name in ("about", "order"))
-    options = [*(f"       {line}" for line in others), "", *about, "", *helped(text["options"], INDENT), "", *order]
-    statuses = ["", "Exit status:", *helped(text["statuses"], 6)]
+    options = [*(f"       {line}" for line in others), "", *about, "", *help_lines(text["options"], INDENT), "", *order]
+    statuses = ["", "Exit status:", *help_lines(text["statuses"], 6)]
     if "files" in text:
-        statuses += ["", "Files:", *helped(text["files"], INDENT)]
+        statuses += ["", "Files:", *help_lines(text["files"], INDENT)]
     first_line = f"usage: {usage}"
     defined = [
         f'#define USAGE "{first_line}"\n',
-        in_c("OPTIONS_HELP", options, f"{first_line}\n"),
-        in_c("STATUS_HELP", statuses),
+        string_macro("OPTIONS_HELP", options, f"{first_line}\n"),
+        string_macro("STATUS_HELP", statuses),
     ]
     return "\n".join([head, *defined, "#endif\n"])
 

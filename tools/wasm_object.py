@@ -18,9 +18,9 @@ INSTRUCTIONS = {
 }
 
 
-def named(first, operands, names):
+def consecutive_opcodes(first, operands, names):
     """Returns instructions with consecutive opcodes."""
-    return {first + after: (name, operands) for after, name in enumerate(names.split())}
+    return {first + offset: (name, operands) for offset, name in enumerate(names.split())}
 
 
 for first, operands, names in (
@@ -56,7 +56,7 @@ for first, operands, names in (
     ),
     (0xC0, "", "i32.extend8_s i32.extend16_s i64.extend8_s i64.extend16_s i64.extend32_s"),
 ):
-    INSTRUCTIONS.update(named(first, operands, names))
+    INSTRUCTIONS.update(consecutive_opcodes(first, operands, names))
 
 # Instructions that are not supported, with their names for the error message.
 UNSUPPORTED = {
@@ -117,22 +117,22 @@ Segment = namedtuple("Segment", "data alignment addresses")
 Place = namedtuple("Place", "segment offset")
 
 
-class Unread(Exception):
+class UnsupportedModule(Exception):
     """The object contains something that this module cannot read or translate."""
 
 
 class Reader:
     """Reads numbers, names and bytes in sequence."""
 
-    def __init__(self, data, at=0, end=None):
-        self.data, self.at, self.end = data, at, len(data) if end is None else end
+    def __init__(self, data, offset=0, end=None):
+        self.data, self.offset, self.end = data, offset, len(data) if end is None else end
 
     def is_at_end(self):
-        return self.at >= self.end
+        return self.offset >= self.end
 
     def byte(self):
-        self.at += 1
-        return self.data[self.at - 1]
+        self.offset += 1
+        return self.data[self.offset - 1]
 
     def number(self):
         """Reads an unsigned number (LEB128)."""
@@ -146,13 +146,13 @@ class Reader:
 
     def signed(self):
         """Reads a signed number (LEB128)."""
-        begin = self.at
-        value, bits = self.number(), 7 * (self.at - begin)
+        begin = self.offset
+        value, bits = self.number(), 7 * (self.offset - begin)
         return value - (1 << bits) if value >> (bits - 1) else value
 
     def bytes(self, count):
-        self.at += count
-        return self.data[self.at - count:self.at]
+        self.offset += count
+        return self.data[self.offset - count:self.offset]
 
     def name(self):
         return self.bytes(self.number()).decode()
@@ -160,45 +160,45 @@ class Reader:
     def part(self):
         """Reads a part that begins with its size, and returns a reader for it."""
         size = self.number()
-        self.at += size
-        return Reader(self.data, self.at - size, self.at)
+        self.offset += size
+        return Reader(self.data, self.offset - size, self.offset)
 
     def kind(self):
         """Reads the type of a value."""
         kind = self.byte()
         if kind not in VALUE_TYPES:
-            raise Unread(f"unknown type of value {kind:#x}")
+            raise UnsupportedModule(f"unknown type of value {kind:#x}")
         return VALUE_TYPES[kind]
 
 
-def read_operand(read, what):
+def read_operand(reader, operand_kind):
     """Reads the operand of an instruction."""
-    if what == "block":
-        kind = read.byte()
+    if operand_kind == "block":
+        kind = reader.byte()
         if kind != NO_RESULT and kind not in VALUE_TYPES:
-            raise Unread("a block that takes values")
+            raise UnsupportedModule("a block that takes values")
         return VALUE_TYPES.get(kind)
-    if what == "labels":
-        return [read.number() for _ in range(read.number() + 1)]
-    if what == "place":
-        read.number()  # The alignment is only a hint.
-        return read.number()
-    if what == "number":
-        return read.signed()
-    if what == "index":
-        return read.number()
-    for _ in {"memories": "12", "memory": "1", "": ""}[what]:
-        if read.byte() != 0:
-            raise Unread("a second memory")
+    if operand_kind == "labels":
+        return [reader.number() for _ in range(reader.number() + 1)]
+    if operand_kind == "place":
+        reader.number()  # The alignment is only a hint.
+        return reader.number()
+    if operand_kind == "number":
+        return reader.signed()
+    if operand_kind == "index":
+        return reader.number()
+    for _ in {"memories": "12", "memory": "1", "": ""}[operand_kind]:
+        if reader.byte() != 0:
+            raise UnsupportedModule("a second memory")
     return None
 
 
-def read_code(read):
+def read_code(reader):
     """Reads an opcode. Returns the name of the instruction, and the kind of its operand."""
-    code = read.byte()
-    code = code << 8 | read.number() if code == 0xFC else code
+    code = reader.byte()
+    code = code << 8 | reader.number() if code == 0xFC else code
     if code not in INSTRUCTIONS:
-        raise Unread(f"the instruction {UNSUPPORTED.get(code, hex(code))}")
+        raise UnsupportedModule(f"the instruction {UNSUPPORTED.get(code, hex(code))}")
     return INSTRUCTIONS[code]
 
 
@@ -207,14 +207,14 @@ class Object:
 
     def __init__(self, data):
         if data[:8] != b"\0asm\1\0\0\0":
-            raise Unread("it is not WebAssembly")
+            raise UnsupportedModule("it is not WebAssembly")
         self.types, self.declared, self.imported, self.variables = [], [], [], []
         self.bodies, self.data_parts, self.aligned, self.symbols, self.addresses = [], [], [], [], {}
         self.begins = []
-        read = Reader(data, 8)
-        while not read.is_at_end():
-            number, part = read.byte(), read.part()
-            self.begins.append((number, part.at))
+        reader = Reader(data, 8)
+        while not reader.is_at_end():
+            number, part = reader.byte(), reader.part()
+            self.begins.append((number, part.offset))
             self.read_section(number, part)
         names = {index: name for kind, index, name in self.symbols if kind == 0}
         self.functions = [self.function(index, names) for index in range(len(self.declared))]
@@ -222,7 +222,7 @@ class Object:
 
     # ---- Sections ----
 
-    def read_section(self, number, read):
+    def read_section(self, number, reader):
         """Reads a section. Those of tables, memory, exports and elements, and the number of segments, are not needed."""
         readers = {
             0: self.read_named,
@@ -233,100 +233,100 @@ class Object:
             11: self.read_data,
         }
         if number in readers:
-            readers[number](read)
+            readers[number](reader)
         elif number not in (4, 5, 7, 9, 12):
-            raise Unread(f"unknown section {number}")
+            raise UnsupportedModule(f"unknown section {number}")
 
-    def read_types(self, read):
-        for _ in range(read.number()):
-            if read.byte() != 0x60:
-                raise Unread("a type that is not a function type")
-            self.types.append(tuple([read.kind() for _ in range(read.number())] for _ in "12"))
+    def read_types(self, reader):
+        for _ in range(reader.number()):
+            if reader.byte() != 0x60:
+                raise UnsupportedModule("a type that is not a function type")
+            self.types.append(tuple([reader.kind() for _ in range(reader.number())] for _ in "12"))
 
-    def read_imports(self, read):
-        for _ in range(read.number()):
-            read.name()
-            name, kind = read.name(), read.byte()
+    def read_imports(self, reader):
+        for _ in range(reader.number()):
+            reader.name()
+            name, kind = reader.name(), reader.byte()
             if kind == 0:
                 self.imported.append(name)
-                self.declared.append(read.number())
+                self.declared.append(reader.number())
             elif kind == 1:
-                read.byte()
-                read_limits(read)
+                reader.byte()
+                read_limits(reader)
             elif kind == 2:
-                read_limits(read)
+                read_limits(reader)
             elif kind == 3:
-                read.bytes(2)
+                reader.bytes(2)
                 self.variables.append(name)
             else:
-                raise Unread(f"an import of kind {kind}")
+                raise UnsupportedModule(f"an import of kind {kind}")
 
-    def read_functions(self, read):
-        self.declared += [read.number() for _ in range(read.number())]
+    def read_functions(self, reader):
+        self.declared += [reader.number() for _ in range(reader.number())]
 
-    def read_bodies(self, read):
-        self.bodies = [read.part() for _ in range(read.number())]
+    def read_bodies(self, reader):
+        self.bodies = [reader.part() for _ in range(reader.number())]
 
-    def read_data(self, read):
-        for _ in range(read.number()):
-            if read.number() != 0:
-                raise Unread("passive data, or data of a second memory")
-            if read.byte() not in (0x41, 0x42):
-                raise Unread("data whose offset is not a constant")
-            read.signed()
-            if read.byte() != 0x0B:
-                raise Unread("data whose offset is not a single constant")
-            self.data_parts.append(read.part())
+    def read_data(self, reader):
+        for _ in range(reader.number()):
+            if reader.number() != 0:
+                raise UnsupportedModule("passive data, or data of a second memory")
+            if reader.byte() not in (0x41, 0x42):
+                raise UnsupportedModule("data whose offset is not a constant")
+            reader.signed()
+            if reader.byte() != 0x0B:
+                raise UnsupportedModule("data whose offset is not a single constant")
+            self.data_parts.append(reader.part())
 
-    def read_named(self, read):
-        name = read.name()
+    def read_named(self, reader):
+        name = reader.name()
         if name == "linking":
-            if read.number() != 2:
-                raise Unread("an unknown version of the linking section")
-            while not read.is_at_end():
-                self.read_linking(read.byte(), read.part())
+            if reader.number() != 2:
+                raise UnsupportedModule("an unknown version of the linking section")
+            while not reader.is_at_end():
+                self.read_linking(reader.byte(), reader.part())
         elif name.startswith("reloc."):
-            number, begin = self.begins[read.number()]
-            for _ in range(read.number()):
-                kind, at, symbol = read.byte(), read.number(), read.number()
-                addend = read.signed() if kind in WITH_ADDEND else 0
+            number, begin = self.begins[reader.number()]
+            for _ in range(reader.number()):
+                kind, offset, symbol = reader.byte(), reader.number(), reader.number()
+                addend = reader.signed() if kind in WITH_ADDEND else 0
                 if number in (10, 11) and kind not in REDUNDANT:
-                    self.addresses[begin + at] = (kind, symbol, addend)
+                    self.addresses[begin + offset] = (kind, symbol, addend)
 
-    def read_linking(self, kind, read):
+    def read_linking(self, kind, reader):
         if kind == 5:
-            for _ in range(read.number()):
-                read.name()
-                self.aligned.append(1 << read.number())
-                read.number()
+            for _ in range(reader.number()):
+                reader.name()
+                self.aligned.append(1 << reader.number())
+                reader.number()
         elif kind == 8:
-            self.symbols = [self.read_symbol(read) for _ in range(read.number())]
+            self.symbols = [self.read_symbol(reader) for _ in range(reader.number())]
         elif kind != 7:
-            raise Unread(f"an unknown part {kind} of the linking section")
+            raise UnsupportedModule(f"an unknown part {kind} of the linking section")
 
-    def read_symbol(self, read):
+    def read_symbol(self, reader):
         """Reads a symbol. Returns its kind, its index or Place, and its name."""
-        kind, flags = read.byte(), read.number()
+        kind, flags = reader.byte(), reader.number()
         if kind in (0, 2, 5):
-            index, is_named = read.number(), not flags & 0x10 or flags & 0x40
-            return kind, index, read.name() if is_named else self.imported[index] if kind == 0 else None
+            index, is_named = reader.number(), not flags & 0x10 or flags & 0x40
+            return kind, index, reader.name() if is_named else self.imported[index] if kind == 0 else None
         if kind == 1:
-            name = read.name()
-            return kind, None if flags & 0x10 else read_place(read), name
+            name = reader.name()
+            return kind, None if flags & 0x10 else read_place(reader), name
         if kind == 3:
-            return kind, read.number(), None
-        raise Unread(f"a symbol of kind {kind}")
+            return kind, reader.number(), None
+        raise UnsupportedModule(f"a symbol of kind {kind}")
 
     # ---- Combining the sections ----
 
-    def place(self, at, kinds):
+    def place(self, offset, kinds):
         """Returns the Place to which the address at an offset in the file points, or None if there is no address."""
-        kind, symbol, addend = self.addresses.get(at, (None, None, None))
+        kind, symbol, addend = self.addresses.get(offset, (None, None, None))
         if kind is None:
             return None
-        of, place, name = self.symbols[symbol]
-        if kind not in kinds or of != 1 or place is None:
-            raise Unread(f"an address of kind {kind}, of {name}")
+        symbol_kind, place, name = self.symbols[symbol]
+        if kind not in kinds or symbol_kind != 1 or place is None:
+            raise UnsupportedModule(f"an address of kind {kind}, of {name}")
         return Place(place.segment, place.offset + addend)
 
     def function(self, index, names):
@@ -334,45 +334,46 @@ class Object:
         parameters, results = self.types[self.declared[index]]
         name = names.get(index, f"function_{index}")
         if len(results) > 1:
-            raise Unread(f"{name} has more than one result")
+            raise UnsupportedModule(f"{name} has more than one result")
         if index < len(self.imported):
             return Function(name, parameters, results, parameters, None)
-        read, kinds = self.bodies[index - len(self.imported)], [*parameters]
-        read = Reader(read.data, read.at, read.end)
-        for _ in range(read.number()):
-            count = read.number()
-            kinds += [read.kind()] * count
+        reader, kinds = self.bodies[index - len(self.imported)], [*parameters]
+        reader = Reader(reader.data, reader.offset, reader.end)
+        for _ in range(reader.number()):
+            count = reader.number()
+            kinds += [reader.kind()] * count
         instructions = []
-        while not read.is_at_end():
-            instructions.append(self.instruction(read, name))
+        while not reader.is_at_end():
+            instructions.append(self.instruction(reader, name))
         return Function(name, parameters, results, kinds, instructions)
 
-    def instruction(self, read, function):
+    def instruction(self, reader, function):
         try:
-            name, what = read_code(read)
-            begin = read.at
-            operand = read_operand(read, what)
-        except Unread as why:
-            raise Unread(f"{function}: {why}") from None
+            name, operand_kind = read_code(reader)
+            begin = reader.offset
+            operand = read_operand(reader, operand_kind)
+        except UnsupportedModule as error:
+            raise UnsupportedModule(f"{function}: {error}") from None
         # An address is the last number of an instruction. It takes five or ten bytes, which the linker fills in.
-        places = {self.place(at, (OFFSET, CONSTANT)) for at in range(begin, read.at)} - {None}
+        places = {self.place(offset, (OFFSET, CONSTANT)) for offset in range(begin, reader.offset)} - {None}
         return Instruction(name, operand, next(iter(places), None))
 
     def segment(self, index):
         part = self.data_parts[index]
-        found = [(at - part.at, self.place(at, (DATA,))) for at in sorted(self.addresses) if part.at <= at < part.end]
-        return Segment(part.data[part.at:part.end], self.aligned[index] if self.aligned else 1, found)
+        addresses = [(offset - part.offset, self.place(offset, (DATA,))) for offset in sorted(self.addresses)
+                     if part.offset <= offset < part.end]
+        return Segment(part.data[part.offset:part.end], self.aligned[index] if self.aligned else 1, addresses)
 
 
-def read_place(read):
+def read_place(reader):
     """Reads the place of a symbol, and skips its size."""
-    place = Place(read.number(), read.number())
-    read.number()
+    place = Place(reader.number(), reader.number())
+    reader.number()
     return place
 
 
-def read_limits(read):
+def read_limits(reader):
     """Skips the limits of a memory or a table, which the linker sets."""
-    flags = read.number()
+    flags = reader.number()
     for _ in range(1 + (flags & 1)):
-        read.number()
+        reader.number()

@@ -19,7 +19,7 @@ import re
 import sys
 from collections import namedtuple
 
-from wasm_object import Object, Unread
+from wasm_object import Object, UnsupportedModule
 
 # The instructions and their C expressions. `a` and `b` are the operands. A comparison gives 0 or 1. A load is evaluated before the
 # next store, and an instruction that may end the program is evaluated at its place in the order.
@@ -109,8 +109,8 @@ def constant(kind, number):
 class Block:
     """An open block: its instruction, the type of its result, and the height of the stack below it."""
 
-    def __init__(self, kind, gives, number, height):
-        self.kind, self.gives, self.height = kind, gives, height
+    def __init__(self, kind, result_type, number, height):
+        self.kind, self.result_type, self.height = kind, result_type, height
         self.label, self.result = f"{'again' if kind == 'loop' else 'after'}{number}", f"r{number}"
         self.is_branched_to = self.has_else = self.then_ends = False
 
@@ -135,7 +135,7 @@ class Body:
             else:
                 self.translate(instruction)
         if self.blocks:
-            raise Unread(f"{function.name}: a block does not end")
+            raise UnsupportedModule(f"{function.name}: a block does not end")
 
     # ---- Writing ----
 
@@ -144,7 +144,7 @@ class Body:
 
     def pop(self):
         if len(self.stack) <= self.blocks[-1].height:
-            raise Unread(f"{self.function.name}: the stack is empty")
+            raise UnsupportedModule(f"{self.function.name}: the stack is empty")
         return self.stack.pop()
 
     def push(self, *parts):
@@ -157,9 +157,9 @@ class Body:
         self.line(f"const {TYPES[value.kind]} {name} = {value.text};")
         return Value(name, value.kind, EMPTY, True)
 
-    def keep_what_reads(self, what):
-        """Stores the values on the stack that read `what`, which is about to change."""
-        self.stack = [self.keep(each) if what in each.reads else each for each in self.stack]
+    def keep_what_reads(self, name):
+        """Stores the values on the stack that read the variable `name`, or MEMORY, which is about to change."""
+        self.stack = [self.keep(each) if name in each.reads else each for each in self.stack]
 
     # ---- Instructions ----
 
@@ -177,10 +177,10 @@ class Body:
         if instruction.name in IN_C:
             self.number(instruction, kind if kind in TYPES else None)
         else:
-            how = getattr(self, f"do_{kind}" if not rest else f"do_{kind}_{rest}", None)
-            if how is None:
-                raise Unread(f"{self.function.name}: the instruction {instruction.name}")
-            how(instruction)
+            method = getattr(self, f"do_{kind}" if not rest else f"do_{kind}_{rest}", None)
+            if method is None:
+                raise UnsupportedModule(f"{self.function.name}: the instruction {instruction.name}")
+            method(instruction)
 
     def number(self, instruction, kind):
         """Translates an instruction of TABLE."""
@@ -191,7 +191,7 @@ class Body:
         reads = a.reads | (b.reads if b else EMPTY) | (frozenset([MEMORY]) if ".load" in instruction.name else EMPTY)
         if b and b.number is not None:
             # A constant shift count is reduced now.
-            text = re.sub(r"\(b & (\d+)\)", lambda found: str(b.number & int(found[1])), text)
+            text = re.sub(r"\(b & (\d+)\)", lambda match: str(b.number & int(match[1])), text)
         text = f"!({a.truth})" if instruction.name.endswith("eqz") and a.truth else in_c(text, a, b)
         if is_store:
             self.keep_what_reads(MEMORY)
@@ -249,8 +249,8 @@ class Body:
         self.pop()
 
     def do_select(self, _):
-        which, b, a = self.pop(), self.pop(), self.pop()
-        self.push(f"{condition(which)} ? {in_parentheses(a)} : {in_parentheses(b)}", a.kind, which.reads | a.reads | b.reads)
+        choice, b, a = self.pop(), self.pop(), self.pop()
+        self.push(f"{condition(choice)} ? {in_parentheses(a)} : {in_parentheses(b)}", a.kind, choice.reads | a.reads | b.reads)
 
     def do_nop(self, _):
         pass
@@ -265,11 +265,11 @@ class Body:
     def do_memory_fill(self, _):
         self.change("fill")
 
-    def change(self, how):
+    def change(self, name):
         """Translates an instruction that writes many bytes, with three operands."""
         arguments = [self.pop() for _ in range(3)][::-1]
         self.keep_what_reads(MEMORY)
-        self.line(f"{how}({', '.join(argument.text for argument in arguments)});")
+        self.line(f"{name}({', '.join(argument.text for argument in arguments)});")
 
     def do_call(self, instruction):
         called = self.all.object.functions[instruction.operand]
@@ -298,8 +298,8 @@ class Body:
         self.stack = [self.keep(value) if value.reads else value for value in self.stack]
         self.opened += 1
         block = Block(instruction.name, instruction.operand, self.opened, len(self.stack))
-        if block.gives:
-            self.line(f"{TYPES[block.gives]} {block.result};")
+        if block.result_type:
+            self.line(f"{TYPES[block.result_type]} {block.result};")
         if instruction.name == "loop":
             self.line(f"{block.label}:;")
         self.line(text)
@@ -307,7 +307,7 @@ class Body:
 
     def give(self, block):
         """Stores the result of a block, if its end is reached."""
-        if block.gives and not self.is_unreachable:
+        if block.result_type and not self.is_unreachable:
             self.line(f"{'return' if block.kind == 'function' else f'{block.result} ='} {self.pop().text};")
         del self.stack[block.height:]
 
@@ -329,18 +329,18 @@ class Body:
             self.line(f"{block.label}:;")
             ends = True
         self.is_unreachable = not ends
-        if block.gives and ends:
-            self.push(block.result, block.gives, frozenset([block.result]), True)
+        if block.result_type and ends:
+            self.push(block.result, block.result_type, frozenset([block.result]), True)
 
     def branch(self, depth):
         """Returns the C statements of a branch, which store the result of the block first."""
         block = self.blocks[-1 - depth]
-        gives = block.gives if block.kind != "loop" else None
-        result = f" {self.stack[-1].text}" if gives else ""
+        result_type = block.result_type if block.kind != "loop" else None
+        result = f" {self.stack[-1].text}" if result_type else ""
         if block.kind == "function":
             return f"return{result};"
         block.is_branched_to = True
-        return f"{block.result} ={result}; goto {block.label};" if gives else f"goto {block.label};"
+        return f"{block.result} ={result}; goto {block.label};" if result_type else f"goto {block.label};"
 
     def do_br(self, instruction):
         self.line(self.branch(instruction.operand))
@@ -348,7 +348,7 @@ class Body:
 
     def do_br_if(self, instruction):
         value = self.pop()
-        if self.blocks[-1 - instruction.operand].gives and self.stack:
+        if self.blocks[-1 - instruction.operand].result_type and self.stack:
             # The result is read twice.
             self.stack[-1] = self.keep(self.stack[-1])
         self.line(f"if ({condition(value)}) {{ {self.branch(instruction.operand)} }}")
@@ -380,31 +380,32 @@ def in_c(text, a, b):
 def frame_of(function):
     """Returns how many bytes of the machine's stack a function takes, which its code states exactly once."""
     code = function.instructions
-    reads = [at for at, instruction in enumerate(code) if instruction.name == "global.get"]
+    reads = [position for position, instruction in enumerate(code) if instruction.name == "global.get"]
     if len(reads) == 1 and code[reads[0] + 1].name == "local.set":
         # LLVM may keep the stack pointer in a variable until the frame is first used. Nothing else may be in that variable.
         variable = code[reads[0] + 1].operand
-        uses = [(at, instruction.name) for at, instruction in enumerate(code)
+        uses = [(position, instruction.name) for position, instruction in enumerate(code)
                 if instruction.name.startswith("local.") and instruction.operand == variable]
-        reads = [at for at, name in uses if name == "local.get"] if [name for _, name in uses] == ["local.set", "local.get"] else []
-    found = [(code[at + 1], code[at + 2].name) for at in reads]
-    if len(found) != 1 or found[0][0].name != "i64.const" or found[0][1] not in ("i64.sub", "i64.add"):
-        raise Unread(f"{function.name}: it is unclear how much of the stack it takes")
-    (size, how), = found
-    return size.operand if how == "i64.sub" else -size.operand
+        is_read_once = [name for _, name in uses] == ["local.set", "local.get"]
+        reads = [position for position, name in uses if name == "local.get"] if is_read_once else []
+    frames = [(code[position + 1], code[position + 2].name) for position in reads]
+    if len(frames) != 1 or frames[0][0].name != "i64.const" or frames[0][1] not in ("i64.sub", "i64.add"):
+        raise UnsupportedModule(f"{function.name}: it is unclear how much of the stack it takes")
+    (size, operation), = frames
+    return size.operand if operation == "i64.sub" else -size.operand
 
 
 class Translation:
     """Translates functions of an object, and all functions that they call."""
 
-    def __init__(self, read, exported):
-        self.object, self.exported = read, exported
-        self.numbers = {function.name: number for number, function in enumerate(read.functions)}
+    def __init__(self, wasm_object, exported):
+        self.object, self.exported = wasm_object, exported
+        self.numbers = {function.name: number for number, function in enumerate(wasm_object.functions)}
         self.segments, self.table, self.names, self.bodies = set(), {}, {}, {}
         self.table_bytes = 0
         missing = [name for name in exported if name not in self.numbers]
         if missing:
-            raise Unread(f"the object has no {', '.join(missing)}")
+            raise UnsupportedModule(f"the object has no {', '.join(missing)}")
         for name in exported:
             self.visit(self.numbers[name], [])
         self.pointers = self.table_pointers()
@@ -412,7 +413,7 @@ class Translation:
     def visit(self, number, above):
         """Translates a function after all functions that it calls."""
         if number in above:
-            raise Unread(f"{self.object.functions[number].name} calls itself")
+            raise UnsupportedModule(f"{self.object.functions[number].name} calls itself")
         if number in self.bodies or self.object.functions[number].instructions is None:
             return
         body = Body(self, self.object.functions[number])
@@ -430,7 +431,7 @@ class Translation:
 
     def check_variable(self, instruction):
         if self.object.variables[instruction.operand] != STACK_POINTER:
-            raise Unread(f"the global variable {self.object.variables[instruction.operand]}")
+            raise UnsupportedModule(f"the global variable {self.object.variables[instruction.operand]}")
 
     def name(self, number):
         """Returns the name of a function in C."""
@@ -456,8 +457,8 @@ class Translation:
             self.table_bytes += -self.table_bytes % 16
             self.table[place.segment] = self.table_bytes
             self.table_bytes += len(self.object.segments[place.segment].data)
-        at = self.table[place.segment] + place.offset
-        return f"table + {at}" if at else "table", True
+        offset = self.table[place.segment] + place.offset
+        return f"table + {offset}" if offset else "table", True
 
     def table_pointers(self):
         """Returns the lines that write the addresses into the table. This may add more data to the table."""
@@ -465,8 +466,8 @@ class Translation:
         while {*self.table} - done:
             for segment in sorted({*self.table} - done):
                 done.add(segment)
-                lines += [f"store64(table + {self.table[segment] + at}, {self.address_of(place)[0]});"
-                          for at, place in self.object.segments[segment].addresses]
+                lines += [f"store64(table + {self.table[segment] + offset}, {self.address_of(place)[0]});"
+                          for offset, place in self.object.segments[segment].addresses]
         return lines
 
     # ---- Writing ----
@@ -495,8 +496,8 @@ class Translation:
         if not self.table:
             return []
         data = bytearray(self.table_bytes)
-        for segment, at in self.table.items():
-            data[at:at + len(self.object.segments[segment].data)] = self.object.segments[segment].data
+        for segment, offset in self.table.items():
+            data[offset:offset + len(self.object.segments[segment].data)] = self.object.segments[segment].data
         return ["", f"static const u8 table_bytes[{self.table_bytes}] = {{", *byte_lines(data), "};", "",
                 "static void write_table(u64 table)", "{", "    copy(table, address(table_bytes), sizeof table_bytes);",
                 *(f"    {pointer}" for pointer in self.pointers), "}", ""]
@@ -504,7 +505,7 @@ class Translation:
     def declaration(self, function, name, extra_parameters=(), words="", first=0):
         parameters = [
             *(f"u64 {name}" for name in extra_parameters),
-            *(f"{TYPES[kind]} l{at}" for at, kind in enumerate(function.parameters, first)),
+            *(f"{TYPES[kind]} l{number}" for number, kind in enumerate(function.parameters, first)),
         ]
         return f"{words}{TYPES[function.results[0]] if function.results else 'void'} {name}({', '.join(parameters) or 'void'})"
 
@@ -514,31 +515,31 @@ class Translation:
         # Labels of loops to which no branch goes back are removed.
         text = re.sub(r"(?m)^ *(again\d+):;\n", lambda value: value[0] if f"goto {value[1]};" in text else "", text)
         used = {*re.findall(r"\b(?:l\d+|sp|table)\b", text)}
-        names = [(f"l{at}", kind) for at, kind in enumerate(function.locals)]
+        names = [(f"l{index}", kind) for index, kind in enumerate(function.locals)]
         variables = [
-            (kind, [name for name, its_kind in names[len(function.parameters) :] if its_kind == kind and name in used])
+            (kind, [name for name, local_kind in names[len(function.parameters) :] if local_kind == kind and name in used])
             for kind in TYPES
         ]
         unused = [
-            each
-            for each in [*body.extra_parameters, *(name for name, _ in names[: len(function.parameters)])]
-            if each not in used
+            name
+            for name in [*body.extra_parameters, *(name for name, _ in names[: len(function.parameters)])]
+            if name not in used
         ]
         return ["", self.declaration(function, self.name(number), body.extra_parameters, "static "), "{",
-                *(f"    {TYPES[kind]} {', '.join(f'{name} = 0' for name in of_kind[at:at + 16])};" for kind, of_kind in variables
-                  for at in range(0, len(of_kind), 16)),
+                *(f"    {TYPES[kind]} {', '.join(f'{name} = 0' for name in names_of_kind[begin:begin + 16])};"
+                  for kind, names_of_kind in variables for begin in range(0, len(names_of_kind), 16)),
                 *(f"    (void) {name};" for name in unused), text, "}"]
 
-    def extra_arguments(self, found):
+    def extra_arguments(self, match):
         """Returns the stack and the table, as arguments of a call before its own ones."""
-        body = self.bodies.get(int(found[1]))
-        return ", ".join(body.extra_parameters if body else []) + (", " if body and body.extra_parameters and not found[2] else "")
+        body = self.bodies.get(int(match[1]))
+        return ", ".join(body.extra_parameters if body else []) + (", " if body and body.extra_parameters and not match[2] else "")
 
     def exported_lines(self, number):
         """Returns a function that C calls."""
         body, function = self.bodies[number], self.object.functions[number]
         declaration = self.declaration(function, PREFIX + function.name)
-        arguments = [*body.extra_parameters, *(f"l{at}" for at in range(len(function.parameters)))]
+        arguments = [*body.extra_parameters, *(f"l{index}" for index in range(len(function.parameters)))]
         return ["", f"{declaration};", "", declaration, "{",
                 *([f"    STACK({body.stack_bytes + -body.stack_bytes % 16});"] if "sp" in body.extra_parameters else []),
                 *(["    TABLE(sizeof table_bytes);", "    write_table(table);"] if "table" in body.extra_parameters else []),
@@ -546,7 +547,7 @@ class Translation:
 
 
 def byte_lines(data):
-    return ["    " + ", ".join(map(str, data[at:at + 24])) + "," for at in range(0, len(data), 24)]
+    return ["    " + ", ".join(map(str, data[begin:begin + 24])) + "," for begin in range(0, len(data), 24)]
 
 
 def translate(data, exported):

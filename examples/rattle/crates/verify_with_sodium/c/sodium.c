@@ -1,5 +1,7 @@
 /* SPDX-License-Identifier: MIT */
-/* Implements with libsodium the functions that src/c_calls.rt declares. Rattle passes a slice as a pointer and a length. */
+/* Implements the functions that src/c_calls.rt declares. They are not part of libsodium, but call it. Rattle passes a slice as
+ * a pointer and a length. The lengths of seeds, keys and signatures need not be checked here, because the contracts of the
+ * declarations require the lengths that libsodium needs, and it is proved that every caller obeys the contracts. */
 #include <stdbool.h>
 #include <stddef.h>
 #include <stdint.h>
