@@ -258,7 +258,7 @@ module _ (buffer : List ℕ) (len : ℕ) (line : List ℕ) (n : ℕ) (new : List
     whole = sym (ap (λ p. p.1) h);
   }
 
-  -- If appending succeeds, the line is accepted, the buffer has room for it, and the line follows the old list.
+  -- If appending succeeds, the line is accepted, the buffer has room, and the line follows the old list.
   returned : (c : Result ⊤ (Refusal ListFault)) → appended_line c buffer len line ≡ (Ok n, new)
       → IsAppended c buffer len line n new
   returned (Err r) h = absurd (cc (ap (λ p. ok_in p.0) h))
