@@ -91,8 +91,11 @@ HEAD = """\
 """
 # The names of the files in the directory of a function's written proof.
 OF_FUNCTION = ("Answers.antt", "Invariants.antt", "Proof.antt")
-# The maximum number of mutants that are tried in one run of the prover.
-GROUP = 40
+# The maximum number of mutants that are tried in one run of the prover, and the minimum if they are split among processors.
+GROUP, MIN_GROUP = 40, 8
+# The maximum number of mutants of a function that are tried before the prover is asked which outputs the contract determines,
+# because that takes about as long as a few mutants.
+FEW = 6
 # Stands for the suffix of a name until it is known.
 SUFFIX = "_@"
 # The names that the clause of a probe may use.
@@ -786,8 +789,9 @@ def generators_of(crate, is_unchanged=False, names=()):
     return [Generator(structs, path, item, is_unchanged, names) for path, item in items]
 
 
-def determined_outputs(trial, generators, mutants, pool):
-    """Returns, for each function, those outputs that its contract determines and that a mutant changes."""
+def determined_outputs(trial, mutants, generators, pool):
+    """Returns, for each function that has one of these mutants, those outputs that its contract determines and that a
+    mutant changes."""
     changed = {}
     for body in mutants:
         changed.setdefault(body.function, set()).add(body.changes)
@@ -801,7 +805,7 @@ def determined_outputs(trial, generators, mutants, pool):
                 double_calls.append(DoubleCall(generator, missing if is_by_field else ()))
         for number, body in enumerate(double_calls):
             body.suffix = f"_with_call_{number}"
-        for group in pool.map(trial.try_double_calls, split_evenly(double_calls)):
+        for group in pool.map(trial.try_double_calls, split_evenly(double_calls, trial.slots.count)):
             for body in group:
                 known[body.function] = known.get(body.function, frozenset()) | body.determined
     return known
@@ -824,9 +828,15 @@ def try_functions(trial, generators, mutants, pool, is_unchanged):
     """Tries the mutants of some functions of a crate, and returns their verdicts."""
     if is_unchanged:
         return try_in_groups(trial, mutants, pool)
-    known = determined_outputs(trial, generators, mutants, pool)
+    counts = Counter(body.function for body in mutants)
+    known = determined_outputs(trial, [body for body in mutants if counts[body.function] > FEW], generators, pool)
     settled = [body for body in mutants if body.is_settled(known.get(body.function, frozenset()))]
-    others = try_in_groups(trial, [body for body in mutants if body not in settled], pool)
+    verdicts = try_in_groups(trial, [body for body in mutants if body not in settled], pool)
+    unclear = [verdict.body for verdict in verdicts
+               if verdict.outcome in (PROOF_ONLY, GAVE_UP) and counts[verdict.body.function] <= FEW]
+    known = determined_outputs(trial, unclear, generators, pool)
+    settled += [body for body in unclear if body.is_settled(known.get(body.function, frozenset()))]
+    others = [verdict for verdict in verdicts if verdict.body not in settled]
     return [Verdict(body, ONE_VALUE, "") for body in settled] + retry_unclear(trial, others, pool)
 
 
@@ -875,14 +885,15 @@ def try_in_groups(trial, bodies, pool):
     """Tries mutants in groups, several groups at once, and returns the verdicts. A group changes no function in place twice."""
     for number, body in enumerate(bodies):
         body.suffix = f"_with_mutant_{number}"
-    return [verdict for verdicts in pool.map(trial.try_mutants, split_evenly(bodies)) for verdict in verdicts]
+    return [verdict for verdicts in pool.map(trial.try_mutants, split_evenly(bodies, trial.slots.count))
+            for verdict in verdicts]
 
 
-def split_evenly(bodies):
-    """Splits bodies into groups of about the same size."""
+def split_evenly(bodies, slots):
+    """Splits bodies into groups of about the same size, if possible one for each slot."""
     in_order = sorted(bodies, key=lambda body: body.function)
     most_per_function = max(Counter(body.function for body in in_order if not body.copied).values(), default=0)
-    number = max(most_per_function, -(-len(in_order) // GROUP))
+    number = max(most_per_function, -(-len(in_order) // GROUP), min(slots, len(in_order) // MIN_GROUP))
     return [in_order[first::number] for first in range(number)]
 
 
