@@ -77,7 +77,8 @@ def summary(request, answer):
 def run(arguments):
     """Compares the answers of both programs. Returns true if known_differences.py names every difference."""
     lines = list(dict.fromkeys(requests.all_requests(arguments.seed, arguments.count)))
-    # These requests change the table of accepted signatures, so their order matters, and repeated ones must not be removed.
+    # These requests change the table of signatures that the toy scheme accepts, so their order matters, and repeated ones must
+    # not be removed.
     lines += requests.tables(random.Random(arguments.seed))
     with tempfile.TemporaryDirectory() as directory, tempfile.TemporaryDirectory() as files:
         theirs = answers_of(build_oracle(arguments, directory), lines, files)

@@ -277,7 +277,7 @@ def python_call(call, header):
     lines = [f"self._library.{call.name}({', '.join(arguments)})"]
     if call.answer == "size_t":
         lines[0] = f"length = {lines[0]}"
-    elif call.answer == "uint32_t" or call.answer == "enum minisign_due":
+    elif call.answer in ("uint32_t", "uint64_t", "enum minisign_due"):
         lines[0], types, results = f"number: int = {lines[0]}", ["int", *types], ["number", *results]
     results = [f"return {', '.join(results)}"] if results else []
     result = f"Tuple[{', '.join(types)}]" if len(types) > 1 else "".join(types) or "None"

@@ -79,7 +79,7 @@ TYPES = {"i32": "u32", "i64": "u64"}
 BITS = {"i32": 32, "i64": 64}
 # The global variable of the object that is the stack pointer.
 STACK_POINTER = "__stack_pointer"
-# The only thing besides local variables that an expression may read.
+# Stands for the linear memory in the sets of variables that an expression reads.
 MEMORY = "memory"
 # The prefix of functions that C calls or provides, and the prefix of the other functions.
 PREFIX, WITHIN = "machine_", "do_"

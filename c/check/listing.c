@@ -1,5 +1,5 @@
 /* SPDX-License-Identifier: MIT */
-/* Reads and verifies the list, and looks up its entries. */
+/* Reads the signed list of checksums, verifies its signature, and looks up entries. */
 #include "listing.h"
 
 #include <sodium.h>
@@ -256,7 +256,8 @@ static int compare_names(const void *first, const void *second)
     return strcmp((*first_entry)->name, (*second_entry)->name);
 }
 
-/* Returns true if a file can match the entry. No file matches a name that has escapes or a backslash. */
+/* Returns true if a file can match the entry. sha256sum writes a backslash or line feed in a name as an escape. The
+ * program does not translate escapes, so no file matches a name that has one, or that contains a backslash. */
 static bool can_match(const struct named_entry *listed)
 {
     return !listed->entry.is_escaped && strchr(listed->name, '\\') == NULL;

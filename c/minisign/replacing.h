@@ -30,8 +30,9 @@ struct replacement;
  * are removed first.
  *
  * destinations.h says how links and files of other users are handled. If the target is not a regular file, but for
- * example a pipe or a device, the content is written to it at once. If the target exists and `may_replace` is false,
- * nothing is opened or written, and the result is NULL. On failure, removes the temporary file and ends the program.
+ * example a pipe or a device, this call writes the content to it, and `put_in_place` does nothing. If the target exists
+ * and `may_replace` is false, nothing is opened or written, and the result is NULL. On failure, removes the temporary
+ * file and ends the program.
  */
 struct replacement *prepare_replacement(const char *file, enum file_kind kind, bool may_replace, const uint8_t *bytes,
                                         size_t len);
@@ -48,10 +49,10 @@ bool have_same_destination(const struct replacement *first, const struct replace
 bool put_in_place(struct replacement *replacement);
 
 /*
- * Puts a pair of files in place: both of them, or none if that fails or a signal ends the program. In two cases, only
- * the first file may be put in place: after a kill or a power failure in between; and after a failure if the first file
- * replaced an existing file and the file system cannot exchange names (renameat2). Returns NULL on success. If one of
- * the files exists and must not be replaced, returns its name.
+ * Puts a pair of files in place: both of them, or none if that fails or a signal ends the program. There are two
+ * exceptions, after which only the first file is in place: a kill or a power failure in between; and a failure if the
+ * first file replaced an existing file and the file system cannot exchange names (renameat2). Returns NULL on success.
+ * If one of the files exists and must not be replaced, returns its name.
  */
 const char *put_both_in_place(struct replacement *first, struct replacement *second);
 

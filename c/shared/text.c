@@ -62,8 +62,8 @@ bool ends_with_space(const uint8_t *text, size_t len)
            || last == 0x3000;
 }
 
-/* Returns true if a terminal may act on this character instead of displaying it: control characters other than a tab,
- * line and paragraph separators, bidirectional formatting, and the byte order mark. */
+/* Returns true if a terminal may act on this character instead of displaying it: line and paragraph separators,
+ * bidirectional formatting, the byte order mark, and control characters, except for a tab. */
 static bool is_control(uint32_t character)
 {
     return (character < 0x20 && character != '\t') || (character >= 0x7f && character < 0xa0) || character == 0x61c

@@ -5,8 +5,8 @@ bindings/rust under the name `minisign-verify`. The crates that they need come f
 
     tests/bindings/rust.py
 
-- The results are compared with those of `c/minisign` and libsodium, and with the header (`compare_results`), which also
-  determines the layout of structs.
+- The results are compared with those of `c/minisign` and libsodium, and the errors with those of minisign.h
+  (`compare_results`). The layout of structs must be that of the header.
 - The crates are built in a path with spaces, with neither make nor objcopy in PATH, with the environment variables of the
   crate cc and of libsodium, as a git dependency, for Windows (run by wine), and for AArch64 (run by qemu).
 - The examples of README.md, pasted into a crate, and those of the documentation are run.
@@ -45,12 +45,12 @@ from shared_cases import TOP, Program, read, record_of, run, write
 from wine import Wine
 
 CRATE, SYS = (os.path.join(TOP, "bindings", name) for name in ("rust", "rust-sys"))
-# The files of bindings/rust that are written by hand. Only those in src/raw may contain `unsafe`. The other constants
-# are the files of bindings/rust and bindings/rust-sys that tools/bindings.py generates.
+# The files of bindings/rust that are written by hand. Only those in src/raw may contain `unsafe`.
 BY_HAND = [
     "src/lib.rs", "src/base64.rs", "src/files.rs", "src/records.rs", "src/signing.rs", "src/raw.rs",
     "src/raw/sodium.rs", "src/lists.rs", "src/raw/lists.rs",
 ]
+# The files of bindings/rust and bindings/rust-sys that tools/bindings.py generates.
 GENERATED, GENERATED_SYS = "src/raw/header.rs", "src/header.rs"
 # Symbols of libsodium, which a program without the feature `sodium` must not have.
 NO_SODIUM = dict.fromkeys(("crypto_sign", "sodium_init", "randombytes"), False)
@@ -237,7 +237,7 @@ def compare_results(program, scratch, minisign, cases):
     program.check_libsodium(["accepts"])
     length_error, base64_error = (f"Err(InvalidEncoding(BARE_PUBLIC_KEY_{fault}))" for fault in ("LENGTH", "NOT_BASE64"))
     program.check_bare_keys(*map(re.escape, ("Ok(None)", length_error, base64_error, length_error)))
-    # The debug output has no secrets, and has the names of reasons.
+    # The debug output of a value contains no secrets. That of an error contains the error's name.
     program.check_pairs(6, "shown")
     # The traits of the types, records, bare signatures, and secret keys before they are decrypted.
     program.check_pairs(36, "types")
@@ -275,8 +275,8 @@ DEBIAN_LIBRARIES = "/usr/lib/x86_64-linux-gnu"
 
 
 def messages():
-    """Returns the expected output of target.rs. It verifies data with the published signature, and prints the two
-    messages that it would verify with Ed25519: the digest of its own data, and the signature followed by the trusted
+    """Returns the expected output of target.rs. It has no Ed25519: it prints the two messages that a caller would verify,
+    and reports both as valid. They are the digest of its own data, and the published signature followed by its trusted
     comment."""
     signature = shared_cases.PUBLISHED.signature
     second = record_of(signature)[10:] + signature.split(b"\n")[2].removeprefix(b"trusted comment: ")
@@ -434,7 +434,7 @@ def check_targets(checks, programs, crate, scratch):
 
 def check_mutants(checks, cargo, crate, scratch, minisign):
     """Checks that the checks of a user's crate fail with each mutant. A mutant may cause warnings. All mutants are
-    built in one directory, so that cargo compiles only the files that differ from the previous mutant."""
+    built in one directory, so that cargo compiles only the crates whose files differ from the previous mutant."""
     crate_path = os.path.join(scratch, "changed")
     users = {name: new_crate(scratch, f"mutants-{name}", depends_on(RENAMED, crate_path, os.path.dirname(crate)), f"{name}.rs")
              for name in ("verifying", "lists")}

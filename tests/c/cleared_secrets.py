@@ -7,7 +7,7 @@ The library. cleared_secrets.c creates keys, decrypts them (also with scrypt mem
 step it searches all registers and all writable memory for secrets: the seed of the key and its first half, the
 password, also in the form that scrypt hashes, the output of scrypt, and the base64 encoding of the key. They may be
 only in the caller's variables. cleared_secrets.c is linked with each build of the proved functions, with glibc and musl,
-with -O0 and -O2, and runs on AArch64 under qemu. The script also compares the stack use with the limits in
+with -O0 and -O2, and for AArch64, where it runs under qemu. The script also compares the stack use with the limits in
 minisign.h.
 
 The program. `c/minisign` generates, decrypts, changes and signs with keys. It is searched whenever it opens, writes
@@ -53,8 +53,10 @@ SALT = bytes(range(32))
 ROWS = (1024, 4096)
 # The levels of optimization, and the variables for make. The second level is the makefile's default.
 LEVELS = {"-O0": ("CFLAGS=-O0", "CPPFLAGS="), "-O2": ()}
-# The variables for make for each build of the proved functions: the archives for x86-64-v2 (also in place of the one
-# for x86-64-v3) and for x86-64-v3, and the C source, in which the compiler decides what is left in memory.
+# The variables for make for each build of the proved functions. The library has an archive for x86-64-v2 and one for
+# x86-64-v3, and chooses at run time. The first build has the former in both places, so that it is used on every
+# processor. An empty C_CALLS leaves out the functions that are translated to C. The last build has only these. In
+# them, the compiler decides what is left in memory.
 BUILDS_OF_FUNCTIONS = (["V3=../dist/calls-x86-64-v2.a", "C_CALLS="], ["C_CALLS="], ["PORTABLE=1"])
 # The step of cleared_secrets.c in which a secret is left in memory, and the number of all steps.
 LEFT_ON_PURPOSE = "leaving a secret on purpose"

@@ -7,8 +7,8 @@
 Errors. The comment of a call in a header, and so its manual page, must name exactly the errors that the contract of
 the call allows. The script finds these errors by following the definitions in specs/ from the clauses of the export
 in minisign_c to the variants of the enums of errors. NEVER_RETURNED lists errors that are found in this way but
-that the call never returns, and NAMED_APART lists errors that a comment names for another reason. error_texts.c
-must have a message for each error. The documentation of the packages must list the same errors.
+that the call never returns, and NAMED_NOT_RETURNED lists errors that a comment names although the call does not return
+them. error_texts.c must have a message for each error. The documentation of the packages must list the same errors.
 
 Versions. "Since" is the version that last changed the declaration or the errors of a call. last_release.txt lists
 the calls of the last release. A call that is not in this list, or that differs from it, must be "Since" the version
@@ -49,10 +49,10 @@ NO_ERROR = {"LIBRARY"}
 # name of a call stands for all of its errors.
 READ_BEFORE = "minisign_read_signature has read the text, and the call compares its digest"
 KEY_READ_BEFORE = "the definition of a verdict reads the key file too, which the caller has read before"
-ASKED_BEFORE = "minisign_ask has checked it, and a state without a question is rejected"
-BARE_ASKED_BEFORE = "minisign_ask_bare has checked it, and a state without a question is rejected"
-JUDGED_APART = "minisign_judge_comment has no such argument"
-LIST_ASKED_BEFORE = "minisign_list_ask has checked it, and a list that was not asked about is rejected"
+ASKED_BEFORE = "minisign_ask has checked it, and without a successful minisign_ask the call returns NOT_ASKED"
+BARE_ASKED_BEFORE = "minisign_ask_bare has checked it, and without its success the call returns NOT_ASKED"
+WITHOUT_EXPIRY = "minisign_judge_comment has no such argument"
+LIST_ASKED_BEFORE = "minisign_list_ask has checked it, and without its success the call returns NOT_ASKED"
 NEVER_RETURNED = {
     "minisign_ask": [("minisign_read_signature", READ_BEFORE)],
     "minisign_comment_verdict": [("minisign_read_signature", READ_BEFORE), ("DIFFERENT_KEY_IDS LEGACY_NOT_ACCEPTED", ASKED_BEFORE)],
@@ -70,13 +70,13 @@ NEVER_RETURNED = {
     ],
     "minisign_opening_memory": [("PARAMETERS_TOO_HIGH INVALID_PARAMETERS", "it writes zeros in these cases")],
     "minisign_install_answer": [("DIFFERENT_KEY_IDS LEGACY_NOT_ACCEPTED", "minisign_install_signature returns these")],
-    "minisign_install_init": [("NOT_LISTED", "it is the result of looking up a name before a list was read")],
+    "minisign_install_init": [("NOT_LISTED", "a new installation has it as the result of looking up a name")],
     "minisign_install_list": [
         ("NOT_UTF8 BAD_NAME MALFORMED_LINE NOT_LISTED LISTED_TWICE", "minisign_install_answer returns these")
     ],
     "minisign_install_signature": [("OTHER_FILE NO_NUMBER NO_EXPIRY BAD_EXPIRY EXPIRED BAD_SIZE OLDER_UPDATE",
                                     "minisign_install_answer returns these")],
-    "minisign_judge_comment": [("NO_EXPIRY", JUDGED_APART)],
+    "minisign_judge_comment": [("NO_EXPIRY", WITHOUT_EXPIRY)],
     "minisign_list_ask": [("minisign_read_signature", READ_BEFORE)],
     "minisign_list_ask_any": [("minisign_read_signature", READ_BEFORE)],
     "minisign_list_verdict": [
@@ -89,7 +89,7 @@ NEVER_RETURNED = {
 # For each call, the errors that its comment names but that it does not return, and the reason.
 ONE_COMMENT = "two calls share the comment"
 PASSED_IN = "the comment names it as an argument of minisign_install_failed"
-NAMED_APART = {
+NAMED_NOT_RETURNED = {
     "minisign_read_public_key": [("BARE_PUBLIC_KEY_LENGTH BARE_PUBLIC_KEY_NOT_BASE64", ONE_COMMENT)],
     "minisign_read_bare_public_key": [
         ("MISSING_PUBLIC_KEY MISSING_PUBLIC_KEY_COMMENT PUBLIC_KEY_LENGTH PUBLIC_KEY_NOT_BASE64", ONE_COMMENT)
@@ -158,6 +158,7 @@ def reached_errors(library, text, imports, definitions, followed):
     definitions that were followed."""
     errors = set()
     for _, module, name, definition in library.named_in(text, imports, definitions):
+        # The modules that export the name, up to the one that defines it. The variants of an enum are in its module TheVariants.
         origins = [(path.split("."), origin_name) for path, origin_name in library.chain(module, name)]
         variant = next((origin_name for path, origin_name in origins if path[-1:] == ["TheVariants"] and path[-2] in ENUMS), None)
         if variant or name == WEAK[0]:
@@ -199,7 +200,7 @@ def by_contract(call):
 
 
 def errors_in_row(row, errors_of_call):
-    """Returns the errors that a row of NEVER_RETURNED or NAMED_APART lists."""
+    """Returns the errors that a row of NEVER_RETURNED or NAMED_NOT_RETURNED lists."""
     return errors_of_call(row[0]) if row[0].startswith("minisign_") else {*row[0].split()}
 
 
@@ -219,7 +220,8 @@ def named_errors(calls, call, errors, visited=()):
 
 def stated_errors(calls, call, errors):
     """Returns the errors that a call returns according to its comment."""
-    return named_errors(calls, call, errors).difference(*(errors_in_row(row, returned_errors) for row in NAMED_APART.get(call, ())))
+    others = [errors_in_row(row, returned_errors) for row in NAMED_NOT_RETURNED.get(call, ())]
+    return named_errors(calls, call, errors).difference(*others)
 
 
 def check_lists(checks, calls, errors):
@@ -230,11 +232,11 @@ def check_lists(checks, calls, errors):
         superfluous, missing = sorted(stated - expected), sorted(expected - stated)
         checks.check(not missing, f"{call} can return {', '.join(missing)}, which its comment does not name")
         checks.check(not superfluous, f"the comment of {call} names {', '.join(superfluous)}, which its contract does not allow")
-    for table, whole in ((NEVER_RETURNED, by_contract), (NAMED_APART, lambda call: named_errors(calls, call, errors))):
+    for table, whole in ((NEVER_RETURNED, by_contract), (NAMED_NOT_RETURNED, lambda call: named_errors(calls, call, errors))):
         for call, rows in table.items():
             for row in rows:
                 checks.check(row[0].startswith("minisign_") or errors_in_row(row, by_contract) <= whole(call),
-                             f"{call}: superfluous row {row[0]} in NEVER_RETURNED or NAMED_APART")
+                             f"{call}: superfluous row {row[0]} in NEVER_RETURNED or NAMED_NOT_RETURNED")
     returned = set().union(*map(returned_errors, calls))
     checks.check(
         errors <= returned,

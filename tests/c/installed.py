@@ -178,8 +178,8 @@ def check_verifiers(checks, installed):
 
 def check_signing(checks, installed, program, cases):
     """Signs with a program, and verifies the signature with Minisign. If the program must fail, it must leave no
-    signature. A case has the key file, the data, the comment, a password file if the key is encrypted, and the
-    expected error or an empty string."""
+    signature. A case has a description, the arguments (the key file, the data, the comment, and a password file if the
+    key is encrypted), and the expected error or None."""
     signature_path = installed.path("made")
     for description, (secret, data, comment, *password), expected_error in cases:
         if os.path.exists(signature_path):
@@ -206,11 +206,12 @@ def check_signers(checks, installed):
     # Files with the right password, with a wrong one, and with the right one without a line end.
     good, wrong, without_line_end = (write(installed.scratch, name, text)
                                      for name, text in (("pw", b"pw\n"), ("wrong", b"pv\n"), ("endless", b"pw")))
-    # Minisign truncates passwords to 1,023 bytes.
+    # Minisign truncates passwords to 1,023 bytes. The library does not, so they do not open a key with a password of 1,024.
     long_password_key = write(installed.scratch, "long.key", text_of(seal_record(record, b"p" * 1024, Limits())))
     long, shorter = (write(installed.scratch, f"{count}.password", b"p" * count + b"\n") for count in (1024, 1023))
-    # Keys with a changed byte in each half, and with a changed last byte, which belongs to the checksum. (Minisign
-    # writes zeros as the checksum of an unencrypted key.)
+    # An Ed25519 secret key is a seed and a public key. In these keys the first byte of the public key differs, the first byte
+    # of the seed, and the last byte of the public key. Minisign writes zeros as the checksum of an unencrypted key, so only
+    # the comparison of both halves can detect this.
     mismatched_keys = [write(installed.scratch, f"half{number}.key", text_of(flip_bit(record, offset)))
               for number, offset in enumerate((SEED_AT + 32, SEED_AT, SEED_AT + 63))]
     two_lines = "a comment contains a line break, or the trusted comment begins or ends with white space"

@@ -91,7 +91,7 @@ class Vector:
         head, *lines = block.splitlines()
         self.name, _, values = head.partition(" | ")
         self.values = [value.strip() for value in values.split(" & ")] if values else []
-        self.covers = [tuple(line.strip().split(" ", 1)) for line in lines]
+        self.tests = [tuple(line.strip().split(" ", 1)) for line in lines]
 
 
 def expand_ranges(name):
@@ -317,12 +317,12 @@ def occurs(value, text):
 def errors_in(vector):
     """Yields a message for each error in a vector. Each value must occur in one of the tests, or in all tests of a
     range, and each test must contain one of the values."""
-    if not vector.covers:
+    if not vector.tests:
         yield "no test covers it"
-    if not vector.values and any(kind != "edit" for kind, _ in vector.covers):
+    if not vector.values and any(kind != "edit" for kind, _ in vector.tests):
         yield "it has no value"
     texts_by_test = []
-    for kind, name in vector.covers:
+    for kind, name in vector.tests:
         texts = {each: TEXT_OF[kind](each) if kind in TEXT_OF else None for each in expand_ranges(name)}
         missing = [each for each, text in texts.items() if text is None]
         if missing or not texts:
@@ -358,15 +358,15 @@ def check_all(checks, _):
     checks.check(len(vectors) == COUNT, f"{LIST} has {len(vectors)} vectors, expected {COUNT}")
     for name in sorted({name for name in names if names.count(name) > 1}):
         checks.check(False, f"two vectors have the name {name}")
-    missing = [*missing_in_ci({kind for vector in vectors for kind, _ in vector.covers})]
+    missing = [*missing_in_ci({kind for vector in vectors for kind, _ in vector.tests})]
     checks.check(not missing, *missing)
     for vector in vectors:
         errors = [*errors_in(vector)]
         checks.check(not errors, vector.name, "; ".join(errors))
     for vector in map(Vector, INVALID_VECTORS):
         checks.check([*errors_in(vector)], f"the invalid vector `{vector.name}` is accepted")
-    covers = {(kind, each) for vector in vectors for kind, name in vector.covers for each in expand_ranges(name)}
-    print(f"{len(vectors)} vectors, covered by {len(covers)} tests")
+    names = {(kind, each) for vector in vectors for kind, name in vector.tests for each in expand_ranges(name)}
+    print(f"{len(vectors)} vectors, covered by {len(names)} tests")
 
 
 if __name__ == "__main__":

@@ -44,8 +44,8 @@ def leaves_signature(signature=MISSING):
 
 
 def signed_at(seconds, data=b"abc", half=bytes(range(32)), comment_half=bytes(range(64, 96))):
-    """Returns the signature file for the data at this time. The two halves are the first 32 of the 64 random bytes for
-    each signature. The default is that of random bytes that count up from 0."""
+    """Returns the signature file for the data at this time. The first half of each toy signature consists of the first 32
+    of the 64 random bytes that were drawn for it. By default, the random bytes count up from 0."""
     record, trusted = toy.signature_record(data, half=half), b"timestamp:%d" % seconds
     return toy.signature_text(data, record, trusted, toy.DEFAULT_COMMENT, toy.signature_of(record[10:] + trusted, comment_half))
 
@@ -161,7 +161,8 @@ WITH_STREAMS = [
     ),
 ]
 
-# Generates a pair, signs a file, verifies it and copies it. After the file was changed, both are rejected until it is signed again.
+# Generates a pair, signs a file, verifies it and copies it. After the file was changed, verifying and copying fail until it is
+# signed again.
 SIGNING, SIGNED = ["sign", SK, FILE, SIG], (PK, FILE, SIG)
 GOOD = [WARNING, f"{VERIFIED_RAW}Trusted comment: timestamp:{RandomAndTime.unix_time}\n"]
 WHOLE_WAY = Case(
@@ -224,7 +225,7 @@ CASES = [
     sign("lines that end with carriage return and line feed", files={SK: OPEN_KEY.replace(b"\n", b"\r\n")}),
     sign_with_sealed_key("a key whose derivation takes too much memory", "error: scrypt parameters too high\n",
                          key=toy.secret_text(toy.KEY_A.record(b"Sc", toy.Limits((1 << 30) + 1))), output=PROMPT + DERIVING),
-    sign_with_sealed_key("a key whose derivation has no parts, because the low 32 bits are zero",
+    sign_with_sealed_key("a key for which p of scrypt is 0, because the low 32 bits of the limit are 0",
                          "error: invalid scrypt parameters\n",
                          key=toy.secret_text(toy.KEY_A.record(b"Sc", toy.Limits(0, 1 << 40))), output=PROMPT + DERIVING),
     # Known random bytes and a known time determine the whole file. There may be too few random bytes, or a time before 1970.
@@ -258,7 +259,8 @@ CASES = [
         random_and_time=RandomAndTime(unix_time=-1),
         files={SK: b""},
     ),
-    # An existing signature is replaced and keeps its mode. A failed write of the signature is the last error that is reported.
+    # An existing signature is replaced. The new file has the mode of the old one, but its group has only the permissions that all
+    # other users have too. Writing the signature is the last step, so every other error is reported instead of a failed write.
     sign("a signature that exists", files={SIG: LONGER}),
     sign("an empty signature that exists", files={SIG: b""}),
     sign("a signature that exists, with a mode", files={SIG: WithMode(LONGER, 0o640)},

@@ -925,8 +925,9 @@ class Calls:
         number: int = self._library.minisign_install_is_signed(installation)
         return number
 
-    def install_version(self, installation: Installation) -> None:
-        self._library.minisign_install_version(installation)
+    def install_version(self, installation: Installation) -> int:
+        number: int = self._library.minisign_install_version(installation)
+        return number
 
     def install_size(self, installation: Installation) -> Tuple[int, int]:
         size = c_uint64()
@@ -943,8 +944,9 @@ class Calls:
     def install_error(self, installation: Installation) -> None:
         self._library.minisign_install_error(installation)
 
-    def install_line(self, installation: Installation) -> None:
-        self._library.minisign_install_line(installation)
+    def install_line(self, installation: Installation) -> int:
+        number: int = self._library.minisign_install_line(installation)
+        return number
 
     def judge_comment(
         self, comment: bytes, file: bytes, numbering: int, now: int, kept: int
