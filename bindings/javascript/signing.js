@@ -229,7 +229,8 @@ async function makeSigner(secretKey, comments, getFileName) {
   const state = library.begin();
   const feed = (piece) => library.feed(state, piece);
   const end = async () => {
-    // Verifying uses this call too. It stores the digest in the field `digest` of the object.
+    // Verifying uses this call too. It stores the digest in the field `digest`
+    // of the object.
     const result = {};
     library.digest(state, result);
     const publicKey = await calls.publicKeyOf(bytes);
