@@ -43,8 +43,8 @@ No mutants are made of
 tests/proofs/field_mutants.txt records each function of which no mutant is a failure. The digest of a function covers the kit's
 logic, its body, its written proof, its mutants, those of them that are listed as accepted, and everything else on which the
 outcomes can depend: the definitions, the lemmas and the contracts of the crate and of the crates below, but not the bodies of
-other functions. Only functions whose digest differs are tried, or that are named as CRATE/FUNCTION; --all tries all. The record
-is written after each group of functions, so that a run that was interrupted continues where it ended.
+other functions. Only functions whose digest differs are tried, or that are named as CRATE/FUNCTION; --all tries all. Each
+processor tries some functions at a time, and these are then recorded, so that a run that was interrupted continues where it ended.
 
 --list only prints the mutants. --unchanged tries each mutant without its reset or success, but with the code around it. All of
 these have to be proved, which shows that the change itself is rejected and not the code around it. A run over all crates takes
@@ -80,6 +80,8 @@ WITH_OTHER_VALUE = "rejected with another value"
 ONE_VALUE = "rejected by a contract that allows one value"
 ACCEPTED = "accepted for a listed reason"
 GOOD = (ONE_VALUE, REJECTED, AROUND, WITH_OTHER_VALUE, SAME_FUNCTION, ACCEPTED)
+# The outcomes after which a mutant is tried in another way.
+UNCLEAR = (PROOF_ONLY, GAVE_UP, FAILED)
 OUTCOMES = (*GOOD, GAVE_UP, PROOF_ONLY, UNFIT, PROVED, FAILED)
 LIST = "tests/proofs/field_mutants.txt"
 # Has the mutants that the contract cannot reject, each in a line, with the reason in the indented lines below it.
@@ -91,8 +93,8 @@ HEAD = """\
 """
 # The names of the files in the directory of a function's written proof.
 OF_FUNCTION = ("Answers.antt", "Invariants.antt", "Proof.antt")
-# The maximum number of mutants that are tried in one run of the prover, and the minimum if they are split among processors.
-GROUP, MIN_GROUP = 40, 8
+# The maximum number of mutants that are tried in one run of the prover.
+GROUP = 40
 # The maximum number of mutants of a function that are tried before the prover is asked which outputs the contract determines,
 # because that takes about as long as a few mutants.
 FEW = 6
@@ -789,7 +791,7 @@ def generators_of(crate, is_unchanged=False, names=()):
     return [Generator(structs, path, item, is_unchanged, names) for path, item in items]
 
 
-def determined_outputs(trial, mutants, generators, pool):
+def determined_outputs(trial, mutants, generators):
     """Returns, for each function that has one of these mutants, those outputs that its contract determines and that a
     mutant changes."""
     changed = {}
@@ -805,7 +807,7 @@ def determined_outputs(trial, mutants, generators, pool):
                 double_calls.append(DoubleCall(generator, missing if is_by_field else ()))
         for number, body in enumerate(double_calls):
             body.suffix = f"_with_call_{number}"
-        for group in pool.map(trial.try_double_calls, split_evenly(double_calls, trial.slots.count)):
+        for group in map(trial.try_double_calls, split_evenly(double_calls)):
             for body in group:
                 known[body.function] = known.get(body.function, frozenset()) | body.determined
     return known
@@ -824,33 +826,33 @@ def begin_trial(crate, mutants, slots):
     return trial, unnamed_verdicts + [Verdict(body, FAILED, f"not tried: {reason}") for body in mutants if reason]
 
 
-def try_functions(trial, generators, mutants, pool, is_unchanged):
+def try_functions(trial, generators, mutants, is_unchanged):
     """Tries the mutants of some functions of a crate, and returns their verdicts."""
     if is_unchanged:
-        return try_in_groups(trial, mutants, pool)
+        return try_in_groups(trial, mutants)
     counts = Counter(body.function for body in mutants)
-    known = determined_outputs(trial, [body for body in mutants if counts[body.function] > FEW], generators, pool)
+    known = determined_outputs(trial, [body for body in mutants if counts[body.function] > FEW], generators)
     settled = [body for body in mutants if body.is_settled(known.get(body.function, frozenset()))]
-    verdicts = try_in_groups(trial, [body for body in mutants if body not in settled], pool)
+    verdicts = try_in_groups(trial, [body for body in mutants if body not in settled])
     unclear = [verdict.body for verdict in verdicts
-               if verdict.outcome in (PROOF_ONLY, GAVE_UP) and counts[verdict.body.function] <= FEW]
-    known = determined_outputs(trial, unclear, generators, pool)
+               if verdict.outcome in UNCLEAR and counts[verdict.body.function] <= FEW]
+    known = determined_outputs(trial, unclear, generators)
     settled += [body for body in unclear if body.is_settled(known.get(body.function, frozenset()))]
     others = [verdict for verdict in verdicts if verdict.body not in settled]
-    return [Verdict(body, ONE_VALUE, "") for body in settled] + retry_unclear(trial, others, pool)
+    return [Verdict(body, ONE_VALUE, "") for body in settled] + retry_unclear(trial, others)
 
 
-def retry_unclear(trial, verdicts, pool):
+def retry_unclear(trial, verdicts):
     """Tries again, in another way, the mutants that are proved or whose rejection says nothing about the contract.
     Returns the verdicts. After an unclear rejection, a function is tried that calls the unchanged one and then makes
     the change. For a proved mutant, a probe shows if it changes anything at all."""
-    unclear = [verdict.body for verdict in verdicts if verdict.outcome in (PROOF_ONLY, GAVE_UP) and verdict.body.around]
+    unclear = [verdict.body for verdict in verdicts if verdict.outcome in UNCLEAR and verdict.body.around]
     calls = {body.function: body.with_body(f"{{ {body.call} }}") for body in unclear}
-    called = {verdict.body.function for verdict in try_in_groups(trial, [*calls.values()], pool) if verdict.outcome == PROVED}
+    called = {verdict.body.function for verdict in try_in_groups(trial, [*calls.values()]) if verdict.outcome == PROVED}
     around = {body: body.with_body(body.around) for body in unclear if body.function in called}
-    verdicts_around = {verdict.body: verdict for verdict in try_in_groups(trial, [*around.values()], pool)}
+    verdicts_around = {verdict.body: verdict for verdict in try_in_groups(trial, [*around.values()])}
     other_values = [body for verdict in verdicts if verdict.outcome == GAVE_UP and (body := verdict.body.with_other_value)]
-    verdicts_with_values = {verdict.body: verdict for verdict in try_in_groups(trial, other_values, pool)}
+    verdicts_with_values = {verdict.body: verdict for verdict in try_in_groups(trial, other_values)}
     settled = []
     for verdict in verdicts:
         verdict_with_value = verdicts_with_values.get(verdict.body.with_other_value)
@@ -862,7 +864,7 @@ def retry_unclear(trial, verdicts, pool):
         settled.append(verdict)
     probes = {verdict.body: verdict.body.probe(verdict.body in around) for verdict in settled
               if verdict.outcome == PROVED and verdict.body.field and verdict.body.copied}
-    same = {verdict.body for verdict in try_in_groups(trial, [*probes.values()], pool) if verdict.outcome == PROVED}
+    same = {verdict.body for verdict in try_in_groups(trial, [*probes.values()]) if verdict.outcome == PROVED}
     settled = [Verdict(verdict.body, SAME_FUNCTION, "the field has this value there in the unchanged function")
                if probes.get(verdict.body) in same else verdict for verdict in settled]
     return [as_accepted(verdict) if verdict.body.label in accepted() else verdict for verdict in settled]
@@ -881,19 +883,18 @@ def as_accepted(verdict):
     return Verdict(verdict.body, ACCEPTED, verdict.why)
 
 
-def try_in_groups(trial, bodies, pool):
-    """Tries mutants in groups, several groups at once, and returns the verdicts. A group changes no function in place twice."""
+def try_in_groups(trial, bodies):
+    """Tries mutants in groups, and returns the verdicts. A group changes no function in place twice."""
     for number, body in enumerate(bodies):
         body.suffix = f"_with_mutant_{number}"
-    return [verdict for verdicts in pool.map(trial.try_mutants, split_evenly(bodies, trial.slots.count))
-            for verdict in verdicts]
+    return [verdict for group in split_evenly(bodies) for verdict in trial.try_mutants(group)]
 
 
-def split_evenly(bodies, slots):
-    """Splits bodies into groups of about the same size, if possible one for each slot."""
+def split_evenly(bodies):
+    """Splits bodies into groups of about the same size."""
     in_order = sorted(bodies, key=lambda body: body.function)
     most_per_function = max(Counter(body.function for body in in_order if not body.copied).values(), default=0)
-    number = max(most_per_function, -(-len(in_order) // GROUP), min(slots, len(in_order) // MIN_GROUP))
+    number = max(most_per_function, -(-len(in_order) // GROUP))
     return [in_order[first::number] for first in range(number)]
 
 
@@ -973,7 +974,7 @@ def outcome_counts(outcomes):
 
 
 def parts_of(tried, max_count):
-    """Splits functions into lists with at most `most` mutants. A function with more mutants gets a list of its own."""
+    """Splits functions into lists with at most `max_count` mutants. A function with more mutants gets a list of its own."""
     parts, number = [[]], 0
     for generator, bodies in tried.items():
         if parts[-1] and number + len(bodies) > max_count:
@@ -1028,9 +1029,11 @@ class Run:
         outcomes = Counter(verdict.outcome for verdict in early_verdicts)
         untried = {verdict.body.function for verdict in early_verdicts}
         tried = {generator: bodies for generator, bodies in tried.items() if generator.function not in untried}
-        for part in parts_of(tried, GROUP * self.slots.count):
-            bodies = [body for generator in part for body in tried[generator]]
-            verdicts = try_functions(trial, part, bodies, self.pool, self.is_unchanged)
+        parts = parts_of(tried, GROUP)
+        bodies_of = lambda part: [body for generator in part for body in tried[generator]]
+        # Several parts are tried at the same time.
+        verdicts_of_parts = self.pool.map(lambda part: try_functions(trial, part, bodies_of(part), self.is_unchanged), parts)
+        for part, verdicts in zip(parts, verdicts_of_parts):
             report(verdicts, self.good)
             outcomes += Counter(verdict.outcome for verdict in verdicts)
             own_verdicts = {generator: [verdict for verdict in verdicts if verdict.body in tried[generator]] for generator in part}
