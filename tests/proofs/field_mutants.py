@@ -60,7 +60,7 @@ import sys
 import tempfile
 import threading
 from collections import Counter
-from concurrent.futures import ThreadPoolExecutor
+from concurrent.futures import ThreadPoolExecutor, as_completed
 
 HERE = os.path.dirname(os.path.realpath(__file__))
 sys.path += [HERE, os.path.join(HERE, "..", "shared"), os.path.join(HERE, "..", "..", "tools")]
@@ -1029,11 +1029,12 @@ class Run:
         outcomes = Counter(verdict.outcome for verdict in early_verdicts)
         untried = {verdict.body.function for verdict in early_verdicts}
         tried = {generator: bodies for generator, bodies in tried.items() if generator.function not in untried}
-        parts = parts_of(tried, GROUP)
         bodies_of = lambda part: [body for generator in part for body in tried[generator]]
         # Several parts are tried at the same time.
-        verdicts_of_parts = self.pool.map(lambda part: try_functions(trial, part, bodies_of(part), self.is_unchanged), parts)
-        for part, verdicts in zip(parts, verdicts_of_parts):
+        parts = {self.pool.submit(try_functions, trial, part, bodies_of(part), self.is_unchanged): part
+                 for part in parts_of(tried, GROUP)}
+        for future in as_completed(parts):
+            part, verdicts = parts[future], future.result()
             report(verdicts, self.good)
             outcomes += Counter(verdict.outcome for verdict in verdicts)
             own_verdicts = {generator: [verdict for verdict in verdicts if verdict.body in tried[generator]] for generator in part}
