@@ -30,9 +30,9 @@ struct replacement;
  * are removed first.
  *
  * destinations.h says how links and files of other users are handled. If the target is not a regular file, but for
- * example a pipe or a device, this call writes the content to it, and `put_in_place` does nothing. If the target exists
- * and `may_replace` is false, nothing is opened or written, and the result is NULL. On failure, removes the temporary
- * file and ends the program.
+ * example a pipe or a device, this call writes the content to it, and `put_in_place` changes no file. If the target
+ * exists and `may_replace` is false, nothing is opened or written, and the result is NULL. On failure, removes the
+ * temporary file and ends the program.
  */
 struct replacement *prepare_replacement(const char *file, enum file_kind kind, bool may_replace, const uint8_t *bytes,
                                         size_t len);

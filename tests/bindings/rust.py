@@ -237,7 +237,7 @@ def compare_results(program, scratch, minisign, cases):
     program.check_libsodium(["accepts"])
     length_error, base64_error = (f"Err(InvalidEncoding(BARE_PUBLIC_KEY_{fault}))" for fault in ("LENGTH", "NOT_BASE64"))
     program.check_bare_keys(*map(re.escape, ("Ok(None)", length_error, base64_error, length_error)))
-    # The debug output of a value contains no secrets. That of an error contains the error's name.
+    # The debug output of keys contains no secrets. That of a known reason is its name.
     program.check_pairs(6, "shown")
     # The traits of the types, records, bare signatures, and secret keys before they are decrypted.
     program.check_pairs(36, "types")
@@ -275,9 +275,8 @@ DEBIAN_LIBRARIES = "/usr/lib/x86_64-linux-gnu"
 
 
 def messages():
-    """Returns the expected output of target.rs. It has no Ed25519: it prints the two messages that a caller would verify,
-    and reports both as valid. They are the digest of its own data, and the published signature followed by its trusted
-    comment."""
+    """Returns the expected output of target.rs. In place of Ed25519, it prints the two messages that it has to verify, and
+    accepts both. They are the digest of its own data, and the published signature followed by its trusted comment."""
     signature = shared_cases.PUBLISHED.signature
     second = record_of(signature)[10:] + signature.split(b"\n")[2].removeprefix(b"trusted comment: ")
     return f"{hashlib.blake2b(bytes([7]) * 1000).hexdigest()}\n{second.hex()}\nOk(())\n"

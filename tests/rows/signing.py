@@ -78,8 +78,8 @@ ROWS = [row for rows in (
           ("encrypted, no device works", ENCRYPTED, 0, 1, "EncryptedKeyRefused"))),
     signing_cases("source: not read for an encrypted key", b"abc", None, None, "EncryptedKeyRefused", b"", ENCRYPTED),
     signing_cases("source: read to its end without random bytes", b"abc", None, None, "RandomSourceFailed", b"", WRONG_CHECKSUM),
-    # Of a public key that is passed in, only the 32 bytes of the key are compared, and not its key ID. In the toy scheme, the
-    # last key is the public key for the seed that consists of 32 bytes 01.
+    # A public key that is passed in must have the 32 bytes of the signer's key. Its key ID is not compared. In the toy scheme,
+    # the last key is the public key for the seed that consists of 32 bytes 01.
     *(signing_cases(f"given public key: {name}", error=error, public=public) for name, public, error in (
         ("of the signer", RECORD, None), ("of the signer, with another key ID", OTHER_RECORD, None),
         ("another key", OTHER_RECORD[:10] + bytes([0x5B]) * 32, "RefusedByGivenKey"))),
