@@ -1,7 +1,7 @@
 //! Replaces files in one step: even if the program is killed or the disk is full, the path leads to
 //! either the complete old file or the complete new one.
 
-ghost use Rattle.std.specs.Prelude.{IfErr};
+ghost use Rattle.std.specs.Prelude.{◌≡◌, true, false, Ok, IfErr, IfOk, OnErr, OnOk, is_ok};
 ghost use Rattle.minisign_tool.specs.Replacing.{IsWriteFault};
 
 use crate::permissions::give_permissions;
@@ -92,9 +92,12 @@ impl TemporaryFile {
         written(file.sync_all())
     }
 
-    // Renames the temporary file to the target, in one step.
+    // Renames the temporary file to the target, in one step. If this fails, the temporary file is still
+    // deleted when it is dropped.
     fn install(&mut self) -> Result<()>
-        ensures { IfErr result IsWriteFault }
+        ensures installed { OnOk result (self.new ≡ record self.old { is_installed = true }) }
+        ensures unchanged { OnErr result (self.new ≡ self.old) }
+        ensures refused { IfErr result IsWriteFault }
     {
         written(fs::rename(
             &self.rt,
@@ -365,7 +368,9 @@ fn write_stream(rt: &HostRuntime, contents: Contents<'_>) -> Result<()>
 // Maps the error of a system call that writes: a failed allocation is `OutOfMemory`, and any other
 // error is `WritingFailed`.
 fn written<T>(answer: io::Result<T>) -> Result<T>
-    ensures { IfErr result IsWriteFault }
+    ensures kept { IfOk answer (λ value. result ≡ Ok value) }
+    ensures mapped { IfErr answer (λ _. is_ok result ≡ false) }
+    ensures refused { IfErr result IsWriteFault }
 {
     match answer {
         Ok(value) => Ok(value),
