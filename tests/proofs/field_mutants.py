@@ -15,26 +15,30 @@ A mutant is rejected in one of three ways:
 
   * The contract allows only one value of what the mutant changes. The prover shows this with a function that calls the correct
     one twice with equal arguments, and ensures that the results are equal. It knows only the contract, so each mutant that
-    behaves differently violates the contract. These mutants need not be tried one by one.
+    behaves differently violates the contract. These mutants need not be tried one by one. If the contract says which state
+    a struct represents, both structs have to represent the same state (see represented_states.py). Then the search also has
+    to end without a proof that a struct represents the same states after the field is reset. If there is such a proof, the
+    field has no meaning, and its mutants are not rejected.
   * The search for a proof of the mutant ends without one. The prover tries mutants in groups, as wrong_bodies.py describes.
   * The search gave up at a limit, or only the function's written proof does not fit the mutant, which says nothing about the
-    contract. Then the reset is tried around a call of the correct function: the search has to find a proof for the call, and
-    to end without one for the call with the reset. If the search gave up at a success with a value of zeros, the success is
-    tried with a value from the caller.
+    contract. Then the prover tries to show with a function that calls the correct one that the contract keeps the field
+    unchanged. If it does not, the reset is tried around a call of the correct function: the search has to find a proof for
+    the call, and to end without one for the call with the reset. If the search gave up at a success with a value of zeros,
+    the success is tried with a value from the caller.
 
 A proved mutant is a failure, because the contract allows the wrong function. A rejection that still says nothing is a failure
 too, and so is a mutant that does not compile. There are two exceptions. One is a mutant that changes nothing: the prover proves
-that in the unchanged function the field already has this value at that place. The other is a mutant that is listed in
+that in the unchanged function the field already has this value at that place, or that the error cannot occur. The other is a mutant that is listed in
 tests/proofs/accepted_mutants.txt with a reason: no contract can reject it (for example because the kit's contract of a call of
 std does not say when the call fails), or the clause that it violates and the input for which it does, because the search stops
-at its limit.
+at its limit. A line of this list may be a pattern, in which a star stands for any text.
 
 No mutants are made of
 
   * functions without `ensures`, which promise nothing (a method of a trait has the clauses of the trait);
   * modules that are compiled only for tests, which the prover does not check;
   * fields that the module of the function cannot set, because they are private to another module or crate;
-  * fields of a generic type, and enums of other crates or without a plain variant, for which there is no value;
+  * fields and successes of a generic type, and enums of other crates or without a plain variant, for which there is no value;
   * the end of a function that returns a reference into the struct, because the borrow checker rejects the reset;
   * methods of traits that have no clauses of their own, if they return a struct without a value of zeros. Other methods of
     this kind are changed in place, because they cannot have a second name;
@@ -67,9 +71,10 @@ sys.path += [HERE, os.path.join(HERE, "..", "shared"), os.path.join(HERE, "..", 
 
 import proved
 import tried_mutants
+from generated_mutants import DoubleCall, Generator, OnlyReset, structs_of
 from running import write
-from sources import NAME, ROOT, Reader, files_below, read, read_source
-from wrong_bodies import PROOF_ONLY, FAILED, GAVE_UP, REJECTED, PROVED_VERDICTS, ProverSlots, Trial, Verdict, WrongBody
+from sources import ROOT, Reader, files_below, read, read_source
+from wrong_bodies import PROOF_ONLY, FAILED, GAVE_UP, REJECTED, PROVED_VERDICTS, ProverSlots, Trial, Verdict
 from wrong_bodies import assume, functions_in, loops, replace_pieces
 
 # The outcomes of a trial besides those of wrong_bodies.py.
@@ -78,8 +83,10 @@ AROUND = "rejected as a change around a call"
 WITH_OTHER_VALUE = "rejected with another value"
 # The contract determines the value that the mutant changes, so every other value violates it.
 ONE_VALUE = "rejected by a contract that allows one value"
+# The contract says that the function does not change the field that the mutant resets.
+KEPT = "rejected by a contract that keeps the field"
 ACCEPTED = "accepted for a listed reason"
-GOOD = (ONE_VALUE, REJECTED, AROUND, WITH_OTHER_VALUE, SAME_FUNCTION, ACCEPTED)
+GOOD = (ONE_VALUE, KEPT, REJECTED, AROUND, WITH_OTHER_VALUE, SAME_FUNCTION, ACCEPTED)
 # The outcomes after which a mutant is tried in another way.
 UNCLEAR = (PROOF_ONLY, GAVE_UP, FAILED)
 OUTCOMES = (*GOOD, GAVE_UP, PROOF_ONLY, UNFIT, PROVED, FAILED)
@@ -98,558 +105,10 @@ GROUP = 40
 # The maximum number of mutants of a function that are tried before the prover is asked which outputs the contract determines,
 # because that takes about as long as a few mutants.
 FEW = 6
-# Stands for the suffix of a name until it is known.
-SUFFIX = "_@"
 # The names that the clause of a probe may use.
-PROBED = ("◌≡◌", "◌<◌", "OnOk", "OnErr", "replicate", "None", "false")
-INTEGER = re.compile(r"[iu](?:8|16|32|64|128|size)")
-FIELD = re.compile(r"(?m)^[ \t]*(?P<public>pub(?:\([^)]*\))?\s+)?(?P<name>\w+): (?P<type>[^\n]+?),?$")
-# Matches the types of parameters that can be passed twice.
-COPIED = re.compile(r"&(?!(?:'\w+ )?mut )|Option<&(?!mut )|(?:[iu]\d+|[iu]size|bool|Global|\[\w+; .*\])$")
-# Matches types whose lifetime has no name, and `Self`, which has no meaning outside of its impl.
-UNNAMED = re.compile(r"&(?!')|'_|\bSelf\b")
-# The values that reset a field of a type.
-VALUES = {"()": "()", "bool": "false", "&str": '""', "&[u8]": "&[]"}
-# The result of an exported function for C after an error: the number of the error.
-NUMBER = re.compile(r"\.number\(\)|\bnumber_of(?P<macro>!)?\(|(?<=[>{])\s+(?P<constant>[A-Z][A-Z0-9_]{3,})(?=\s*[,}])")
+PROBED = ("◌≡◌", "◌≢◌", "◌<◌", "OnOk", "OnErr", "replicate", "None", "false")
 # An error of the sources, as the prover reports it.
 AT = re.compile(r"(?m)^(?:\./)?(src/[\w/]+\.rt):(\d+)(?::\d+)?: error")
-
-
-class Mutant(WrongBody):
-    """A mutant of one function: the pieces of text that change it, and a description of the change. A method of a trait's `impl`
-    cannot have a second name. If it has clauses of its own, its copy is a method of the type. Otherwise it is changed in
-    place."""
-
-    def __init__(self, generator, places, description, field="", around="", call="", changes="", outputs=frozenset()):
-        self.generator, self.crate, self.path = generator, generator.structs.crate, generator.path
-        self.item, self.function, self.places = generator.item, generator.function, places
-        self.copied = self.item if generator.is_copied else None
-        self.description, self.label, self.suffix = description, f"{self.crate}/{self.function}: {description}", ""
-        # A condition, which is true if the field already has the reset value where the mutant resets it. Then the mutant
-        # changes nothing.
-        self.field = field
-        # A body that calls the unchanged function, and then makes the same change as the mutant.
-        self.around = around
-        self.call = call
-        # The same mutant with a value from its caller, if this one returns a success with a value of zeros.
-        self.with_other_value = None
-        self.clause = self.false_clause = self.by = self.edit_error = ""
-        self.is_for_kit = self.is_unchanged = self.is_around = False
-        # The output that the mutant changes, if there is exactly one, and all outputs of the function.
-        self.changes, self.outputs = changes, outputs
-
-    def probe(self, is_call):
-        """Returns the unchanged function, or a function that calls it, with one clause: the field has the value to which the mutant
-        resets it. If the prover accepts it, the mutant changes nothing."""
-        body = self.item.body
-        clause = f"ensures probe {{ {self.field} }}\n"
-        probe = self.with_body(f"{clause}{{ {self.call} }}") if is_call else self.with_places([(body, body, clause)])
-        probe.clause = "probe"
-        return probe
-
-    def with_places(self, places):
-        return Mutant(self.generator, places, self.description)
-
-    @property
-    def checked(self):
-        """The name of the function that the prover must reject: the copy, or the function itself."""
-        return self.generator.copied_as + self.suffix if self.copied else self.function
-
-    def pieces(self, text):
-        return self.generator.in_impl(super().pieces(text)) if self.copied else self.places
-
-    def with_body(self, body):
-        """Returns the function with another body, for which no written proof is needed."""
-        copy = self.with_places([(self.item.body, self.item.end, body)])
-        copy.is_around = True
-        return copy
-
-    def copy_proof(self, directory):
-        if not self.is_around:
-            super().copy_proof(directory)
-
-    def is_settled(self, determined):
-        """Returns true if the contract determines what this mutant changes. `determined` has the outputs that it determines (see
-        `DoubleCall`)."""
-        return (self.changes in determined or self.changes.partition(".")[0] in determined
-                or determined >= self.outputs > set())
-
-    def text(self):
-        """Returns the pieces as a text, for a digest."""
-        return f"{self.label} {[new for _, _, new in self.places]}\n"
-
-
-class DoubleCall(Mutant):
-    """A function that calls the unchanged function twice, with equal arguments, and ensures that the outputs of both
-    calls are equal: the result and what is behind each `&mut` parameter. The prover knows only the contract of the
-    function, so a clause that it proves shows that the contract allows only one value of this output. Then every mutant
-    with another value violates the contract."""
-
-    def __init__(self, generator, fields=()):
-        super().__init__(generator, [], "two calls")
-        self.added, self.ensured = generator.call_twice(fields)
-        # The outputs that the contract determines. It is empty until the prover has run.
-        self.determined = frozenset()
-
-    def pieces(self, text):
-        return self.generator.in_impl([(self.item.end, self.item.end, self.added.replace(SUFFIX, self.suffix))])
-
-    def copy_proof(self, directory):
-        pass
-
-    def read_proved_clauses(self, output):
-        """Reads from the output of a check which clauses are proved."""
-        line = re.search(rf"(?m)^fn {re.escape(f'{self.crate}::{self.checked}')}: (.*)$", output)
-        unproved = re.search(r"`search` did not prove ((?:`[^`]+`(?:, )?)+)", line[1]) if line else None
-        goals = {f"returns-clause-{name}": output_name for name, output_name in self.ensured.items()}
-        goals["returns-clause-determined_again"] = self.ensured["determined_0"]
-        missing = re.findall(r"`([^`]+)`", unproved[1]) if unproved else []
-        if line and (line[1].startswith(PROVED_VERDICTS) or unproved and all(goal in goals for goal in missing)):
-            self.determined = frozenset({*goals.values()} - {goals[goal] for goal in missing})
-
-
-@functools.lru_cache(maxsize=None)
-def structs_of(crate):
-    return Structs(crate)
-
-
-class Structs:
-    """The structs that a crate's functions can use: those of the crate, and of the crates that it depends on."""
-
-    def __init__(self, crate):
-        self.crate, self.by_name, self.files = crate, {}, {}
-        for each in (crate, *proved.crates()[crate].dependencies):
-            files = {}
-            for file in files_below(f"{ROOT}/crates/{each}/src", ".rt"):
-                path = os.path.relpath(file, f"{ROOT}/crates/{each}")
-                reader = Reader(f"crates/{each}/{path}")
-                files[path] = reader, reader.read()
-            tests = test_modules(files)
-            for path, (reader, source) in files.items():
-                module = module_of(path)
-                if f"{module}::".startswith(tests):
-                    continue
-                if each == crate:
-                    self.files[path] = (reader, source)
-                for item in source.items:
-                    if item.keyword in ("struct", "enum"):
-                        self.by_name.setdefault(item.name, (each, module, item))
-
-    def declared(self, name, module):
-        """Yields the fields of a struct that a module may set, as name and type."""
-        crate, home, item = self.by_name.get(name, ("", "", None))
-        if not item or item.keyword != "struct":
-            return
-        tuple_ = re.search(r"struct \w+(?:<[^(]*>)?\((.*)\)", item.header + item.text, re.S) if "{" not in item.text else None
-        if tuple_:
-            declared = [re.fullmatch(r"(pub(?:\([^)]*\))?\s+)?(.*)", each.strip(), re.S).groups() for each in in_parts(tuple_[1])]
-            declared = [(public, str(number), kind) for number, (public, kind) in enumerate(declared)]
-        else:
-            body = item.text[item.text.find("{"):] if "{" in item.text else ""
-            declared = [(each["public"], each["name"], each["type"]) for each in FIELD.finditer(body)]
-        for public, field, kind in declared:
-            public = (public or "").strip()
-            if public == "pub" or crate == self.crate and (public or f"{module}::".startswith(f"{home}::") or not home):
-                yield field, kind
-
-    def fields(self, name, module, before=""):
-        """Yields the fields of a struct that a module may set, including nested ones: the path, the statement that resets the field
-        with the name of the parameter left out, and its type."""
-        for name, kind in self.declared(name, module) if before.count(".") < 4 else ():
-            field = f"{before}.{name}"
-            value = self.reset_value(kind)
-            if value:
-                yield field, f"{field} = {value}", kind
-            elif re.match(r"(?:Vec<|String$)", kind):
-                yield field, f"{field}.clear()", kind
-            else:
-                yield from self.fields(NAME.match(kind)[0] if NAME.match(kind) else "", module, field)
-
-    def reset_value(self, kind):
-        """Returns the value that resets a field of this type, or an empty string if the type has none or is a struct, whose
-        fields are reset one by one."""
-        array = re.fullmatch(r"\[(\w+); (.+)\]", kind)
-        if INTEGER.fullmatch(kind):
-            return "0"
-        if array and INTEGER.fullmatch(array[1]):
-            return f"[0; {array[2]}]"
-        if kind.startswith("Option<"):
-            return "None"
-        crate, home, item = self.by_name.get(kind, ("", "", None))
-        if item and item.keyword == "enum" and crate == self.crate:
-            # The first variant without fields.
-            unit = re.search(r"(?m)^    (\w+)(?: = [^,\n]+)?,$", item.text)
-            return "::".join(filter(None, ("crate", home, kind, unit[1]))) if unit else ""
-        return VALUES.get(re.sub(r"&'\w+ ", "&", kind), "")
-
-    def value(self, kind, module, is_at_hand, depth=0):
-        """Returns a value of a type, or an empty string if this script knows none. `is_at_hand` is true if the function has a
-        parameter `alloc`, from which the value may be made."""
-        kind = re.sub(r"&'\w+ ", "&", kind)
-        if kind.startswith("("):
-            values = [self.value(each, module, is_at_hand, depth + 1) for each in in_parts(kind[1:-1])]
-            return f"({', '.join(values)})" if all(values) else "()" if kind == "()" else ""
-        simple = self.reset_value(kind)
-        if simple:
-            return simple
-        if re.match(r"(?:Vec<|String$)", kind):
-            return f"{kind.partition('<')[0]}::new(alloc)" if is_at_hand else ""
-        crate, home, item = self.by_name.get(kind, ("", "", None))
-        fields = list(self.declared(kind, module)) if crate == self.crate and depth < 4 else []
-        values = [(field, self.value(each, module, is_at_hand, depth + 1)) for field, each in fields]
-        # A struct with an invariant, or with a field that the module may not set, cannot be made of these.
-        is_plain = values and "{" in item.text and "ghost " not in item.text and len(FIELD.findall(item.text)) == len(fields)
-        if not is_plain or not all(value for _, value in values):
-            return ""
-        path = "::".join(filter(None, ("crate", home, kind)))
-        return f"{path} {{ {', '.join(f'{field}: {value}' for field, value in values)} }}"
-
-
-def in_parts(text):
-    """Returns the parts of a list with commas."""
-    parts, depth, begin = [], 0, 0
-    for offset, sign in enumerate(text):
-        depth += (sign in "<([{") - (sign in ")]}" or sign == ">" and text[offset - 1:offset] not in ("-", "="))
-        if sign == "," and depth == 0:
-            parts.append(text[begin:offset].strip())
-            begin = offset + 1
-    return [part for part in (*parts, text[begin:].strip()) if part]
-
-
-def test_modules(files):
-    """Returns the paths of the modules that are compiled only for tests, each with `::` at its end."""
-    return tuple("::".join(filter(None, (module_of(path), item.name, ""))) for path, (_, source) in files.items()
-                 for item in source.items if item.keyword == "mod" and "#[cfg(test)]" in item.comment)
-
-
-def module_of(path):
-    """Returns the module of a source file."""
-    return re.sub(r"^src/|\.rt$", "", path).replace("/", "::").replace("lib", "", path == "src/lib.rt").replace(
-        "main", "", path == "src/main.rt")
-
-
-def result_of(header):
-    """Returns the result type of a function."""
-    return header.rpartition(") -> ")[2].partition(" where ")[0] if ") -> " in header else "()"
-
-
-def success_of(kind):
-    """Returns the type of the `Ok` value of a `Result` type, or an empty string for other types."""
-    result = re.fullmatch(r"(?:std::result::|io::)?Result<(.+)>", kind)
-    return in_parts(result[1])[0] if result else ""
-
-
-class Generator:
-    """Makes the mutants of one function."""
-
-    def __init__(self, structs, path, item, is_unchanged, names=()):
-        self.structs, self.path, self.item, self.is_unchanged = structs, path, item, is_unchanged
-        self.reader, _ = structs.files[path]
-        self.module, self.result = module_of(path), result_of(item.header)
-        owner = structs.by_name.get(item.owner)
-        home = owner[1] if item.owner and owner and owner[0] == structs.crate else self.module
-        self.function = "::".join(filter(None, (home, item.owner, item.name)))
-        if item.owner and (names and self.function not in names or item.trait):
-            # In the prover's name of a method of a trait, the name of the trait follows that of the type, without a separator. The
-            # name of a generic type may have arguments, each after a plus sign.
-            pattern = rf"(?:\w+::)*{item.owner}[\w+]*{item.trait}\w*::{item.name}"
-            self.function = next((name for name in names if re.fullmatch(pattern, name)), "" if item.trait else self.function)
-        is_impl = lambda each: each.keyword == "impl" and each.begin <= item.begin and item.end <= each.end
-        # The `impl` of a trait to which the function belongs.
-        self.impl = next(filter(is_impl, structs.files[path][1].items), None) if item.trait else None
-        self.is_copied = not item.trait or any(clause.kind == "ensures" for clause in item.clauses)
-        # The prover's name of a copy, without its suffix.
-        self.copied_as = "::".join(filter(None, (home, item.owner, item.name))) if item.trait else self.function
-        self.bare = self.reader.bare
-        self.opened = {closed - 1: begin for begin, closed in self.reader.closed.items()}
-        self.parameters = self.read_parameters()
-
-    def read_parameters(self):
-        """Returns the parameters as name and type, and sets the offset behind the last one."""
-        offset, depth = self.item.name_end, 0
-        while self.bare[offset] != "(" or depth:
-            depth += (self.bare[offset] == "<") - (self.bare[offset] == ">" and self.bare[offset - 1] != "-")
-            offset += 1
-        self.after_parameters = self.reader.closed[offset] - 1
-        parameters = []
-        for parameter in in_parts(re.sub(r"\s+", " ", re.sub(r"//[^\n]*", "", self.reader.text[offset + 1:self.after_parameters]))):
-            name, _, kind = parameter.partition(": ")
-            is_self = re.fullmatch(r"(&(?:'\w+ )?)?(mut )?self", parameter)
-            parameters.append(("self", f"{is_self[1] or ''}{is_self[2] or ''}{self.item.owner}") if is_self
-                              else (name.removeprefix("mut "), kind))
-        return parameters
-
-    def in_impl(self, pieces):
-        """Returns the pieces, which add a copy. The copy of a method of a trait is moved behind the `impl` of the trait, into an
-        `impl` of the type."""
-        if not self.impl:
-            return pieces
-        header = self.impl.header
-        generics = header[:self.end_of_generics(header)]
-        return [(self.impl.end, self.impl.end, f"\n\n{generics} {header[len(generics):].partition(' for ')[2]} {{{copy}\n}}")
-                for _, _, copy in pieces]
-
-    @staticmethod
-    def end_of_generics(header):
-        """Returns the offset at which the generic parameters of an `impl` end."""
-        at, depth = len("impl"), 0
-        while header[at] == "<" or depth:
-            depth += (header[at] == "<") - (header[at] == ">" and header[at - 1] != "-")
-            at += 1
-        return at
-
-    def would_have_mutants(self):
-        """Returns true if the function would have mutants if the prover's name of it were known."""
-        self.function = self.function or self.item.name
-        return any(True for _ in self.all())
-
-    def mutant(self, places, description, changes, field="", around=""):
-        around = around if self.is_copied else ""
-        return Mutant(self, places, description, field, around, self.call(), changes, self.outputs())
-
-    def all(self):
-        """Yields all mutants of the function."""
-        is_promised = self.item.trait or any(clause.kind == "ensures" for clause in self.item.clauses)
-        if not self.function or not is_promised:
-            return
-        for name, kind in self.parameters:
-            borrowed = re.fullmatch(r"&(?:'\w+ )?mut (\w+)(?:<.*>)?", kind)
-            kind = borrowed and (self.item.owner if borrowed[1] == "Self" else borrowed[1])
-            for field, reset, type_ in self.structs.fields(kind, self.module) if kind else ():
-                yield from self.resets(name, field, reset, type_)
-        yield from self.successes()
-        if self.returns_number():
-            yield from self.zeros()
-
-    def call(self):
-        """Returns a call of the function with its own parameters."""
-        arguments = ", ".join(name for name, _ in self.parameters if name != "self")
-        before = "self." if self.parameters and self.parameters[0][0] == "self" else "Self::" if self.item.owner else ""
-        return f"{before}{self.item.name}({arguments})"
-
-    def outputs(self):
-        """Returns the names of the function's outputs: those of the `&mut` parameters, and `result`."""
-        names = [name for name, kind in self.parameters if re.match(r"&(?:'\w+ )?mut ", kind)]
-        return frozenset([*names, *(["result"] if self.result != "()" else [])])
-
-    def call_twice(self, fields):
-        """Returns the text of a function that calls this one twice, and the output that each of its clauses is about. `fields` are
-        the outputs to compare, for example `self.mark`; without them, all outputs are compared."""
-        item, words, requires, second_names = self.item, [], [], {}
-        for name, kind in self.parameters:
-            second_names[name] = name if COPIED.match(kind) else f"{name}_again"
-            if second_names[name] != name:
-                kind = re.sub(rf"{self.item.owner}$", "Self", kind) if name == "self" else kind
-                words.append(f"{second_names[name]}: {kind}")
-                old = ".old" if kind.startswith("&") else ""
-                requires.append(f"{name}{old} ≡ {second_names[name]}{old}")
-        call = self.call()
-        second_call = re.sub(r"^self\b", second_names.get("self", "self"), call)
-        arguments = ", ".join(second_names[name] for name, _ in self.parameters if name != "self")
-        second_call = f"{second_call[:second_call.rindex('(')]}({arguments})"
-        outputs_by_clause, clauses = {}, []
-        for number, output in enumerate(sorted(fields or self.outputs())):
-            name, dot, field = output.partition(".")
-            if output == "result":
-                sides = ("result.0", "result.1")
-            else:
-                sides = (f"{name}.new{dot}{field}", f"{second_names[name]}.new{dot}{field}")
-            outputs_by_clause[f"determined_{number}"] = output
-            clauses.append(f"ensures determined_{number} {{ {' ≡ '.join(sides)} }}")
-        # The prover names a clause only if there is another one.
-        clauses.append(clauses[0].replace("determined_0", "determined_again"))
-        required = [
-            f"requires {clause.name or 'given'} {{ {clause.text} }}"
-            for clause in item.clauses
-            if clause.kind == "requires"
-        ]
-        required += [f"requires same_{number} {{ {each} }}" for number, each in enumerate(requires)]
-        begin = self.reader.text.rindex("fn ", item.begin, item.name_end)
-        declared = self.reader.text[item.name_end:self.after_parameters].rstrip()
-        comma = "" if declared[-1] in "(," else ", "
-        where = re.search(r" where (.*)$", item.header)
-        result = f" -> ({self.result}, {self.result})" if self.result != "()" else ""
-        with_results = f"let one_call = {call}; let other_call = {second_call}; (one_call, other_call)"
-        body = with_results if result else f"{call}; {second_call};"
-        head = (
-            f"{self.reader.text[begin:item.name_end]}{SUFFIX}{declared}{comma}{', '.join(words)}){result}"
-            f"{where[0] if where else ''}"
-        )
-        return "\n\n" + "\n    ".join([head, *required, *clauses]) + f"\n{{ {body} }}\n", outputs_by_clause
-
-    def resets(self, name, field, reset, kind):
-        """Yields the mutants that reset one field."""
-        body, end, statement = self.item.body + 1, self.item.end - 1, f"{name}{reset}"
-        sets = "" if self.is_unchanged else f"{statement};"
-        value = reset.rpartition(" = ")[2]
-        in_clause = {"0": "0", "false": "false", "None": "None"}.get(value, "")
-        if value.startswith("[0; "):
-            in_clause = f"replicate {kind[1:-1].rpartition('; ')[2]} 0"
-        is_clause = lambda when: f"{name}.{when}{field} ≡ {in_clause}" if in_clause else ""
-        if not self.sets_first(name, field):
-            around = f"{{ {sets} {self.call()} }}"
-            yield self.mutant([(body, body, f" {sets}")], f"{statement} at entry", "", is_clause("old"), around)
-        if self.result == "()" and not self.bare[body:end].rstrip().endswith(f"{statement};"):
-            last = self.bare[body:end].rstrip()[-1:]
-            between = "" if last in ("", ";", "}", "{") else ";"
-            around = f"{{ {self.call()}; {sets} }}"
-            places = [(end, end, f"{between} {sets}")]
-            yield self.mutant(places, f"{statement} at the end", f"{name}{field}", is_clause("new"), around)
-        elif self.result != "()" and not re.search(r"&(?!')|'_", self.result):
-            for when, ending, clause in self.endings(sets):
-                wrapped = [(body, body, f" let returned: {self.result} = {{"), (end, end, f"}}; {ending}")]
-                around = f"{{ let returned: {self.result} = {self.call()}; {ending} }}"
-                holds = is_clause("new")
-                condition = holds and clause.format(holds)
-                yield self.mutant(wrapped, f"{statement} at the end{when}", f"{name}{field}", condition, around)
-        for number, (begin, stop) in enumerate(self.returns(), 1):
-            value = self.reader.text[begin + len("return"):stop].strip()
-            early = (f"{{ let returned: {self.result} = {value}; {sets} return returned }}" if value else f"{{ {sets} return }}")
-            description = f"{statement} before early return {number}"
-            yield self.mutant([(begin, stop, early)], description, f"{name}{field}", is_clause("new"))
-
-    def endings(self, sets):
-        """Yields the ways to reset a field at the end of a function that returns a value. Each is a description of
-        when, the text that follows the returned value (which has the name `returned`), and a clause with a place for a
-        condition. A contract promises different things after a success and after an error, so these are separate
-        mutants."""
-        last = self.bare[self.item.body + 1:self.item.end - 1]
-        last = last[self.last_statement(last):].strip()
-        if success_of(self.result):
-            if not last.startswith("Err("):
-                yield (
-                    " after a success",
-                    f"match returned {{ Ok(passed) => {{ {sets} Ok(passed) }}, Err(failed) => Err(failed) }}",
-                    "OnOk result ({})",
-                )
-            if not last.startswith("Ok("):
-                yield (" after an error", f"match returned {{ Ok(passed) => Ok(passed), Err(failed) => {{ {sets} Err(failed) }} }}",
-                       "OnErr result ({})")
-        elif self.returns_number():
-            if not re.fullmatch(r"[\w:]+(?:\.number\(\))?", last) or last == "0":
-                yield " after a success", f"if returned == 0 {{ {sets} }} returned", "result ≡ 0 → {}"
-            if last != "0":
-                yield " after an error", f"if returned != 0 {{ {sets} }} returned", "0 < result → {}"
-        else:
-            yield "", f"{sets} returned", "{}"
-
-    def returns_number(self):
-        """Returns true for an exported function for C that returns a number."""
-        return 'extern "C"' in self.reader.text[self.item.begin:self.item.body] and bool(INTEGER.fullmatch(self.result))
-
-    def sets_first(self, name, field):
-        """Returns true if the function assigns this field, or a struct that contains it, before it uses the field, so that a
-        reset at entry has no effect."""
-        text = self.bare[self.item.body + 1:self.item.end - 1]
-        for use in re.finditer(rf"(?<![\w.]){name}\b(?P<path>(?:\.\w+)*)(?P<call>\()?", text):
-            path = use["path"].rpartition(".")[0] if use["call"] else use["path"]
-            if not f"{field}.".startswith(f"{path}.") and not f"{path}.".startswith(f"{field}."):
-                # This is another field.
-                continue
-            begin = use.start() - text[:use.start()].endswith("*")
-            assigned = re.match(r"\*?[\w.]+ = ([^;]*);", text[begin:])
-            # An assignment in a branch is not made on every path.
-            is_on_every_path = "{" not in text[:begin]
-            return bool(assigned) and is_on_every_path and f"{field}.".startswith(f"{path}.") and (
-                not re.search(rf"(?<![\w.]){name}\b", assigned[1])
-            )
-        return False
-
-    def returns(self):
-        """Yields the offsets at which each early return begins and its expression ends."""
-        for match in re.finditer(r"\breturn\b", self.bare[self.item.body:self.item.end]):
-            begin = self.item.body + match.start()
-            yield begin, self.reader.after(re.compile(r"[(\[{]|(?P<end>[;,})\]])"), begin)
-
-    def successes(self):
-        """Yields the mutants that return success instead of one error."""
-        kind = success_of(self.result)
-        if not kind:
-            return
-        value = self.structs.value(kind, self.module, ("alloc", "Global") in self.parameters)
-        # The value can also be another parameter of the mutant.
-        by_caller = list(self.successes_with("by_caller", kind)) if self.is_copied and not UNNAMED.search(kind) else []
-        mutants = list(self.successes_with(value, kind)) if value else by_caller
-        for mutant, other in zip(mutants, by_caller if value else ()):
-            mutant.with_other_value = other
-        yield from mutants
-
-    def successes_with(self, value, kind):
-        """Yields the mutants that return a success with this value of this type instead of one error. The value
-        `by_caller` is another parameter."""
-        at, comma = self.after_parameters, "" if self.bare[:self.after_parameters].rstrip()[-1] in "(," else ", "
-        more = [(at, at, f"{comma}by_caller: {kind}")] if value == "by_caller" else []
-        body, end = self.item.body, self.item.end
-        shown, changes = value if len(value) < 40 else "..", []
-        for match in re.finditer(r"\bErr\(", self.bare[body:end]):
-            begin, stop = body + match.start(), self.reader.closed[body + match.end() - 1]
-            # Before `=`, `|` or `if`, `Err(..)` is a pattern and not a value.
-            if not re.match(r"\s*(?:=|\||if\b)", self.bare[stop:stop + 80]):
-                changes.append((begin, stop, f"Ok({value})", f"Err {len(changes) + 1}"))
-        for number, match in enumerate(re.finditer(r"\?", self.bare[body:end]), 1):
-            stop = body + match.start()
-            begin = self.operand(stop)
-            tried = self.reader.text[begin:stop]
-            changes.append((begin, stop + 1, f"(match {tried} {{ Ok(passed) => passed, Err(_) => return Ok({value}) }})",
-                            f"the error of ? {number}"))
-        for begin, stop, new, error in changes:
-            new = self.reader.text[begin:stop] if self.is_unchanged else new
-            yield self.mutant([*more, (begin, stop, new)], f"Ok({shown}) instead of {error}", "result")
-        last = self.bare[body + 1:end - 1]
-        if not re.match(r"(?:Ok|Err)\(|loop\b|'\w+: loop\b", last[self.last_statement(last):].lstrip()):
-            ends = "" if self.is_unchanged else f"Err(_) => Ok({value}), "
-            wrapped = [(body + 1, body + 1, f" let returned: {self.result} = {{"),
-                       (end - 1, end - 1, f"}}; match returned {{ {ends}returned => returned }}")]
-            yield self.mutant([*more, *wrapped], f"Ok({shown}) instead of an error at the end", "result")
-
-    def zeros(self):
-        """Yields the mutants of an exported function that return 0 instead of one error number."""
-        changes = []
-        for match in NUMBER.finditer(self.bare, self.item.body, self.item.end):
-            begin, stop, new = match.start(), match.end(), "0"
-            if match["constant"]:
-                begin = match.start("constant")
-            elif match[0].startswith("number_of"):
-                stop = self.reader.closed[stop - 1]
-                if match["macro"]:
-                    new = f"(match {self.reader.text[match.end():stop - 1]} {{ Ok(()) => 0, Err(_) => 0 }})"
-            else:
-                begin = self.operand(begin)
-            changes.append((begin, stop, new))
-        for number, (begin, stop, new) in enumerate(changes, 1):
-            new = self.reader.text[begin:stop] if self.is_unchanged else new
-            yield self.mutant([(begin, stop, new)], f"0 instead of error number {number}", "result")
-
-    def last_statement(self, text):
-        """Returns the offset of what follows the last statement, which ends in a semicolon, or in a brace at the end of a line."""
-        depth, last = 0, 0
-        for offset, sign in enumerate(text):
-            depth += (sign in "([{") - (sign in ")]}")
-            is_block = sign == "}" and re.match(r" *\n\s*(?![.?)]|else\b|\s|\Z)", text[offset + 1:])
-            if depth == 0 and (sign == ";" or is_block):
-                last = offset + 1
-        return last
-
-    def operand(self, stop):
-        """Returns the offset at which the expression begins that ends at this offset: names, calls and indexes, joined by dots."""
-        begin = stop
-        while True:
-            before = begin
-            while self.bare[before - 1].isspace():
-                before -= 1
-            # A line may begin with the dot of the next call.
-            if before < begin and self.bare[begin] != ".":
-                return begin
-            sign = self.bare[before - 1]
-            if sign in ")]":
-                begin = self.opened[before - 1]
-            elif sign.isalnum() or sign in "_.:?!":
-                begin = before - 1
-            elif sign == ">" and "::<" in self.bare[self.item.body:before]:
-                begin = self.bare.rindex("::<", 0, before)
-            else:
-                return begin
 
 
 class FieldTrial(Trial):
@@ -659,6 +118,18 @@ class FieldTrial(Trial):
         super().__init__(crate, slots)
         # The directory in which the prover keeps the results of each thread, so that each check proves only what has changed.
         self.results = threading.local()
+        # For each struct of which contracts say which state it represents, the fields without a meaning.
+        self.meaningless = {}
+
+    @property
+    def structs(self):
+        return structs_of(self.crate)
+
+    def represented_parts(self, generator, owners):
+        """Yields the fields of a function's struct whose type is one of `owners`, with this type."""
+        for name, kind in self.structs.declared(generator.item.owner, generator.module):
+            if kind in owners:
+                yield f".{name}", kind
 
     def check(self, directory, functions):
         words = [word for function in sorted(functions) for word in ("--only", function)]
@@ -826,10 +297,41 @@ def begin_trial(crate, mutants, slots):
     return trial, unnamed_verdicts + [Verdict(body, FAILED, f"not tried: {reason}") for body in mutants if reason]
 
 
+def find_meaningless(trial, generators, pool):
+    """Sets the fields without a meaning of each struct of which the contracts of these functions say which state it
+    represents. After a reset of such a field the struct represents the same states as before."""
+    methods = {generator.item.owner: generator for generator in generators if generator.state_clause and generator.is_copied}
+    resets = [OnlyReset(generator, field, reset) for owner, generator in methods.items()
+              for field, reset, _ in trial.structs.fields(owner, generator.module)
+              if not any(field.startswith(f"{nested}.") for nested, _ in trial.represented_parts(generator, methods))]
+    for group in pool.map(lambda part: try_in_groups(trial, part), [resets[first::8] for first in range(8)]):
+        for verdict in group:
+            if verdict.outcome == PROVED:
+                trial.meaningless.setdefault(verdict.body.item.owner, set()).add(verdict.body.resets)
+            elif verdict.outcome in (UNFIT, FAILED):
+                print(f"{verdict.body.label}: {verdict.outcome}: {verdict.why}", flush=True)
+    for owner, generator in methods.items():
+        for nested, kind in trial.represented_parts(generator, methods):
+            fields = {f"self{nested}{field.removeprefix('self')}" for field in trial.meaningless.get(kind, ())}
+            trial.meaningless[owner] = trial.meaningless.get(owner, set()) | fields
+
+
 def try_functions(trial, generators, mutants, is_unchanged):
     """Tries the mutants of some functions of a crate, and returns their verdicts."""
     if is_unchanged:
         return try_in_groups(trial, mutants)
+    meaningless = [body for body in mutants
+                   if body.generator.state_clause and body.resets in trial.meaningless.get(body.item.owner, ())]
+    mutants = [body for body in mutants if body not in meaningless]
+    reason = "the struct represents the same states after this reset"
+    verdicts = [Verdict(body, PROVED, reason) for body in meaningless]
+    return [as_accepted(verdict) if is_accepted(verdict.body.label) else verdict for verdict in verdicts] + try_meaningful(
+        trial, generators, mutants
+    )
+
+
+def try_meaningful(trial, generators, mutants):
+    """Tries those mutants of some functions that may change the state of a struct, and returns their verdicts."""
     counts = Counter(body.function for body in mutants)
     known = determined_outputs(trial, [body for body in mutants if counts[body.function] > FEW], generators)
     settled = [body for body in mutants if body.is_settled(known.get(body.function, frozenset()))]
@@ -846,6 +348,7 @@ def retry_unclear(trial, verdicts):
     """Tries again, in another way, the mutants that are proved or whose rejection says nothing about the contract.
     Returns the verdicts. After an unclear rejection, a function is tried that calls the unchanged one and then makes
     the change. For a proved mutant, a probe shows if it changes anything at all."""
+    verdicts = with_kept_fields(trial, verdicts)
     unclear = [verdict.body for verdict in verdicts if verdict.outcome in UNCLEAR and verdict.body.around]
     calls = {body.function: body.with_body(f"{{ {body.call} }}") for body in unclear}
     called = {verdict.body.function for verdict in try_in_groups(trial, [*calls.values()]) if verdict.outcome == PROVED}
@@ -862,22 +365,44 @@ def retry_unclear(trial, verdicts):
         if verdict_around and verdict_around.outcome in (REJECTED, PROVED):
             verdict = Verdict(verdict.body, AROUND if verdict_around.outcome == REJECTED else PROVED, verdict_around.why)
         settled.append(verdict)
-    probes = {verdict.body: verdict.body.probe(verdict.body in around) for verdict in settled
-              if verdict.outcome == PROVED and verdict.body.field and verdict.body.copied}
+    proved_bodies = [verdict.body for verdict in settled if verdict.outcome == PROVED and verdict.body.copied]
+    probes = {body: body.probe(body in around) if body.field else body.with_places(body.unreachable)
+              for body in proved_bodies if body.field or body.unreachable}
     same = {verdict.body for verdict in try_in_groups(trial, [*probes.values()]) if verdict.outcome == PROVED}
-    settled = [Verdict(verdict.body, SAME_FUNCTION, "the field has this value there in the unchanged function")
+    settled = [Verdict(verdict.body, SAME_FUNCTION, "the field has this value there, or the error cannot occur")
                if probes.get(verdict.body) in same else verdict for verdict in settled]
-    return [as_accepted(verdict) if verdict.body.label in accepted() else verdict for verdict in settled]
+    return [as_accepted(verdict) if is_accepted(verdict.body.label) else verdict for verdict in settled]
+
+
+def with_kept_fields(trial, verdicts):
+    """Returns the verdicts, after trying for each unclear one if the contract keeps the field that the mutant resets."""
+    unclear = [verdict.body for verdict in verdicts
+               if verdict.outcome in UNCLEAR and verdict.body.resets and verdict.body.copied]
+    probes = {(body.function, body.resets): body.kept_probe() for body in unclear}
+    proved_probes = {verdict.body for verdict in try_in_groups(trial, [*probes.values()]) if verdict.outcome == PROVED}
+    is_kept = lambda body: probes.get((body.function, body.resets)) in proved_probes
+    return [Verdict(verdict.body, KEPT, "the contract says that the field is unchanged")
+            if verdict.outcome in UNCLEAR and is_kept(verdict.body) else verdict for verdict in verdicts]
 
 
 @functools.lru_cache(maxsize=None)
 def accepted():
-    """Returns the labels of the mutants in ACCEPTED_LIST."""
-    return {line for line in read(ACCEPTED_LIST).splitlines() if line and not line.startswith((" ", "#"))}
+    """Returns the labels of the mutants in ACCEPTED_LIST, and the patterns there, which have a star for any text."""
+    listed = [line for line in read(ACCEPTED_LIST).splitlines() if line and not line.startswith((" ", "#"))]
+    patterns = [re.compile(".*".join(map(re.escape, line.split("*")))) for line in listed if "*" in line]
+    return {line for line in listed if "*" not in line}, patterns
+
+
+def is_accepted(label):
+    labels, patterns = accepted()
+    return label in labels or any(pattern.fullmatch(label) for pattern in patterns)
 
 
 def as_accepted(verdict):
-    """Returns the verdict on a mutant in ACCEPTED_LIST: it fails if its contract rejects it, because it need not be listed then."""
+    """Returns the verdict on a mutant that ACCEPTED_LIST accepts. If its contract rejects it, it must not be listed there, but a
+    pattern may match it."""
+    if verdict.outcome in GOOD and verdict.body.label not in accepted()[0]:
+        return verdict
     if verdict.outcome in GOOD:
         return Verdict(verdict.body, FAILED, f"{verdict.outcome}, but it is listed in {ACCEPTED_LIST}")
     return Verdict(verdict.body, ACCEPTED, verdict.why)
@@ -931,7 +456,7 @@ class Digests:
         """Returns the digest of a function with these mutants."""
         digest = self.common.copy()
         item = generator.item
-        listed = sorted({body.label for body in mutants} & accepted())
+        listed = sorted(body.label for body in mutants if is_accepted(body.label))
         proof = self.proofs.get(generator.function.replace("::", "/"), "")
         parts = (item.text, proof, *(body.text() for body in mutants), *listed)
         for part in parts:
@@ -966,7 +491,7 @@ def lines_of(verdicts):
     """Returns the lines of the record for a function: the numbers of outcomes, and the mutants that change nothing."""
     lines = [f"        {outcome_counts(Counter(verdict.outcome for verdict in verdicts))}\n"]
     return "".join(lines + [f"        {verdict.body.description}: {verdict.outcome}\n" for verdict in verdicts
-                            if verdict.outcome not in (ONE_VALUE, REJECTED, AROUND, WITH_OTHER_VALUE)])
+                            if verdict.outcome not in (ONE_VALUE, KEPT, REJECTED, AROUND, WITH_OTHER_VALUE)])
 
 
 def outcome_counts(outcomes):
@@ -1030,6 +555,7 @@ class Run:
         untried = {verdict.body.function for verdict in early_verdicts}
         tried = {generator: bodies for generator, bodies in tried.items() if generator.function not in untried}
         bodies_of = lambda part: [body for generator in part for body in tried[generator]]
+        find_meaningless(trial, tried, self.pool)
         # Several parts are tried at the same time.
         parts = {self.pool.submit(try_functions, trial, part, bodies_of(part), self.is_unchanged): part
                  for part in parts_of(tried, GROUP)}
