@@ -74,14 +74,15 @@ front_line w x more cut = ⊎_elim some none (cases_lt (position_or_len is_feed 
 
 -- == Positions ==
 
--- The rest of a list after a prefix begins where the prefix ends.
+-- If s is a list after one of its prefixes, it begins at the length of the list minus the length of s.
 pub behind_front : (n : ℕ) (xs s : List ℕ) → s ≡ drop n xs → drop (length xs - length s) xs ≡ s
 behind_front n xs s is = ⊎_elim
     (λ l. ap (λ k. drop k xs) (omega (arith, l, ap length is, length-drop n xs)) ∙ sym is)
     (λ l. let empty = is ∙ drop_all n xs l in drop_all (length xs - length s) xs
     (omega (arith, ap length empty)) ∙ sym empty) (cases_lt n (length xs))
 
--- Bytes in the first line of a part of the text are also in the text.
+-- Bytes at an offset in the first line of a part, which reaches to the end of the text, are in the text at
+-- this offset after the beginning of the part.
 pub placed : (bytes line part text : List ℕ) (at n : ℕ) → IsAtOffset bytes line at → take (length line) part
     ≡ line → length line ≤ length part → part ≡ drop n text
     → IsAtOffset bytes text (length text - length part + at)

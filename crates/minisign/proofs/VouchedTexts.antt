@@ -1,6 +1,7 @@
--- Lemmas about verification with devices. If no device fails, the result is that of the function judge; for
--- two texts, that of judge for the key and the box that they parse to. A returned comment is the trusted
--- comment of the signature text.
+-- Lemmas about verification with devices, which are a reader of the signed data, an output for status lines
+-- and an output for a copy of the data. If no device fails, the result is that of the function judge. If the
+-- caller passes the texts of a public key and a signature, it is the result of judge for the key and the
+-- signature (the box) that they parse to. A returned comment is the trusted comment of the signature text.
 use Rattle.std.proofs.Common.{◌≡◌, ℕ, true, List, inl, inr, sym, ap, ◌∙◌, IfErr, IsErrAnd, OnOk}
 use Rattle.std.proofs.Common.{IfSome, ◌⊎◌, ⊎_elim, false, refl, [], Option, None, Some, IfOk, Result, Ok}
 use Rattle.std.proofs.Common.{Err, true≢false, IsSome, Bool}
@@ -31,7 +32,8 @@ both_vouch : {R W O : Type 0} {accepts : Verifier} {pk sig : List ℕ} {options 
 both_vouch _ _ _ h vouches =
     record { key = h.key; box = h.box; key_read = h.key_read; box_read = h.box_read; vouches = vouches }
 
--- The texts are valid for the bytes that the output received.
+-- If verification with two texts and an output succeeds, the signature is valid for the bytes that the output
+-- received.
 pub copy_vouched : {R W O T : Type 0} (accepts : Verifier) (pk sig : List ℕ) (options : VerifyOptions)
     (reader : RereaderCall R) (status : SinkCall W) (out : SinkCall O)
     (r : Result T Fault) → OnOk r (VerifyingTextsSucceeds accepts pk sig options reader status out)
@@ -50,7 +52,8 @@ copy_vouched _ _ _ _ _ _ _ (Err e) h _ = tt
 module _ {R W O : Type 0} (accepts : Verifier) (pk sig : List ℕ) (options : VerifyOptions)
     (reader : RereaderCall R) (status : SinkCall W) (out : SinkCall O)
     (key : PublicKeyRecord) (box : SignatureBoxRecord) (read : read_texts pk sig ≡ Ok (key, box)) where
-  -- Verification succeeds with what the texts parse to.
+  -- If the two texts parse to a key and a box, and verification with these succeeded as specified, then
+  -- verification with the texts succeeded as specified.
   pub succeeds_with : {T : Type 0} (r : Result T Fault)
       → OnOk r (VerifyingSucceeds accepts key box options reader status out)
       → OnOk r (VerifyingTextsSucceeds accepts pk sig options reader status out)
@@ -58,7 +61,7 @@ module _ {R W O : Type 0} (accepts : Verifier) (pk sig : List ℕ) (options : Ve
       record { key = key; box = box; key_read = key_read; box_read = box_read; verified = h }
   succeeds_with (Err e) h = tt
 
-  -- Verification fails with what the texts parse to.
+  -- The same for verification that failed.
   pub fails_with : {T : Type 0} (r : Result T Fault)
       → IfErr r (VerifyingFails accepts key box options reader status out)
       → IfErr r (VerifyingTextsFails accepts pk sig options reader status out)
@@ -68,6 +71,7 @@ module _ {R W O : Type 0} (accepts : Verifier) (pk sig : List ℕ) (options : Ve
 module _ {R W O : Type 0} (accepts : Verifier) (key : PublicKeyRecord) (box : SignatureBoxRecord)
     (options : VerifyOptions)
     (reader : RereaderCall R) (status : SinkCall W) (out : SinkCall O) where
+  -- If the unread bytes are known, the message is these bytes.
   the_message : (m message : List ℕ) → reader.source.ahead reader.old ≡ Some message
       → KnownBytesAre (reader.source.ahead reader.old) m → m ≡ message
   the_message m _ known_data given = let same =
@@ -76,6 +80,7 @@ module _ {R W O : Type 0} (accepts : Verifier) (key : PublicKeyRecord) (box : Si
   module _ (message : List ℕ) (known_data : reader.source.ahead reader.old ≡ Some message)
       (no_new_fault : ¬ (SourceFails reader)) (status_no_new_fault : ¬ (SinkFails status))
       (out_no_new_fault : ¬ (SinkFails out)) (again : options.output ≡ true → IsSteady reader) where
+    -- If no device fails, each reason for which verification fails is the error of judge, or memory ran out.
     refused_for : (e : Fault) → IsReason accepts key box options.quiet options.output options.allow_legacy
         reader status out e
         → IsValueOrNoMemory {V = ⊤} (Err e) (judge accepts key box message options.allow_legacy)
@@ -122,7 +127,8 @@ silent old new = record {
   new = new;
 }
 
--- There is a message that may be the unread bytes, whether they are known or not.
+-- A source may say which bytes are unread (`Some`), or may not say it (`None`). In both cases there is a
+-- message that agrees with what it says.
 some_ahead : (known : Option (List ℕ)) → (message : List ℕ) × KnownBytesAre known message
 some_ahead None = ([], tt)
 some_ahead (Some xs) = (xs, refl)
@@ -139,6 +145,7 @@ module _ {R W O : Type 0} (accepts : Verifier) (pk sig : List ℕ) (reader : Rer
     (status : SinkCall W) (out : SinkCall O)
     (key : PublicKeyRecord) (box : SignatureBoxRecord) (e : Fault) (read : read_texts pk sig ≡ Ok (key, box))
   where
+    -- Each reason for which verification fails is one of these three kinds, if nothing is reported or copied.
     ahead_reason : IsReason accepts key box true false false reader status out e
         → IsQuietFault accepts pk sig reader e
     ahead_reason (inl memory) = inl memory
@@ -152,7 +159,8 @@ module _ {R W O : Type 0} (accepts : Verifier) (pk sig : List ℕ) (reader : Rer
     ahead_reason (inr (inr (inr (inr (inr (inr (is_requested, _))))))) = absurd (true≢false
         (sym is_requested))
 
--- Verifying an opened file gives the verdict on some data, or an error of reading a file.
+-- The result of verifying data in an opened file is the verdict on a message that agrees with what is known
+-- of the unread bytes, or an error of reading the file, or memory ran out.
 pub file_verdict : {T R : Type 0} (bytes : T → List ℕ) (accepts : Verifier) (pk sig : List ℕ)
     (reader : RereaderCall R) (r : Result T Fault)
     → IfOk r (λ t. (message : List ℕ) × ReadsWhole reader.source reader.old reader.new message
@@ -166,6 +174,7 @@ file_verdict _ _ _ sig _ (Err e) _ refused =
     (λ more. ⊎_elim (λ failed. ([], inr (inr (inl failed.fault))))
     (λ (message, given, why). (message, inl (sig, sym why))) more) refused
 
+-- If the copy is equal to the message whenever the unread bytes are known, it is equal to the known bytes.
 same_ahead : (known : Option (List ℕ)) (message copy : List ℕ) → KnownBytesAre known message
     → (IsSome known → copy ≡ message) → IfSome known (λ xs. copy ≡ xs)
 same_ahead None _ _ _ _ = tt
@@ -181,7 +190,8 @@ prehashed _ _ box _ vouches =
 -- The consequences of quiet verification for two texts.
 module _ {R W O : Type 0} (accepts : Verifier) (pk sig : List ℕ) (reader : RereaderCall R)
     (status : SinkCall W) (out : SinkCall O) where
-  -- The texts are valid for the unread data, with the comment.
+  -- If quiet verification succeeds, all data that was unread before the call was read, the signature is valid
+  -- for it, and the returned bytes are the trusted comment.
   pub ahead_vouched : {T : Type 0} (bytes : T → List ℕ) (r : Result T Fault)
       → OnOk r (VerifyingTextsSucceeds accepts pk sig (options_of true false false) reader status out)
       → IfOk r (λ t. IsCommentOf sig (bytes t))
@@ -224,7 +234,8 @@ module _ {R W O : Type 0} (accepts : Verifier) (pk sig : List ℕ) (reader : Rer
         fails_without_sinks accepts key box false reader status out e h,
       )))
 
-  -- The texts are valid for the copy, with the comment.
+  -- If quiet verification with an output succeeds, the signature is valid for the copy, and the returned
+  -- bytes are the trusted comment.
   pub copied_with : {T : Type 0} (bytes : T → List ℕ) (r : Result T Fault)
       → OnOk r (VerifyingTextsSucceeds accepts pk sig (options_of true true false) reader status out)
       → IfOk r (λ t. IsCommentOf sig (bytes t))

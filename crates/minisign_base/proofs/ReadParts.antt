@@ -8,6 +8,6 @@ pub unread_bytes_split : (at n : ℕ) (xs : List ℕ) → drop at xs ≡ take n 
 unread_bytes_split at n xs = sym (take-append-drop n (drop at xs)) ∙ ap (λ l. take n (drop at xs) ++ l)
     (drop-drop n at xs)
 
--- The front ends with what was read last.
+-- The bytes read so far are those that were read before, followed by those that were read last.
 pub read_bytes_append : (at n : ℕ) (xs : List ℕ) → take (at + n) xs ≡ take at xs ++ take n (drop at xs)
 read_bytes_append at n xs = take-add at n xs

@@ -1,4 +1,4 @@
--- The calls of an installation in C, whose results and errors are numbers.
+-- The calls from C for an installation. Their results and errors are numbers.
 use Rattle.std.specs.Prelude.{◌≡◌, ◌==◌, ◌&&◌, ℕ, ℤ, pos, negsuc, nat_le, Bool, true, false, List}
 use Rattle.std.specs.Prelude.{if◌then◌else◌}
 use Rattle.std.specs.Prelude.{Option, None, Some, Result, Ok, Err, option_map}
@@ -72,7 +72,8 @@ ReturnsLength (Ok len) n old new = (n ≡ 0) × (new ≡ len)
 ReturnsLength (Err r) n old new = (n ≡ refusal_number install_number r) × (new ≡ old)
 
 -- The outcome of the call that reports this signature file at this time: if the old installation represents a
--- state with this file name, the number, the length, the buffer and the new state are those of the step.
+-- state with this file name, the number and the new state are those of the step, and so are the trusted
+-- comment in the buffer and its length.
 abbrev pub NumberReads : List ℕ → List ℕ → Option ℕ → Installation → Installation → ℕ → ℕ → ℕ → List ℕ
     → List ℕ → Type 0
 NumberReads sig_text file time old new n len_before len_after before after =
@@ -102,8 +103,8 @@ abbrev pub ReturnsVersion : Result ℕ InstallFault → ℕ → ℕ → ℕ → 
 ReturnsVersion (Ok version) n old new = (n ≡ 0) × (new ≡ version)
 ReturnsVersion (Err fault) n old new = (n ≡ install_number fault) × (new ≡ old)
 
--- ReturnsVersion if `numbering` is valid; otherwise the number is that of BadNumbering, and the version
--- number is unchanged.
+-- ReturnsVersion if the first argument is true, which means that the numbering is valid. Otherwise the number
+-- is that of BadNumbering, and the version number is unchanged.
 abbrev pub ReturnsVersionIf : Bool → Result ℕ InstallFault → ℕ → ℕ → ℕ → Type 0
 ReturnsVersionIf true judged n old new = ReturnsVersion judged n old new
 ReturnsVersionIf false judged n old new = (n ≡ misuse_number BadNumbering) × (new ≡ old)

@@ -1,6 +1,7 @@
--- The calls for lists: their results as numbers, and the structs after them. To ask a list about a key and a
--- signature file means to get the inputs of the two Ed25519 checks that the caller must make (the questions),
--- with `minisign_list_ask` or `minisign_list_ask_any`.
+-- The calls from C for signed lists of files, like SHA256SUMS: the numbers that they return, and the contents
+-- of the caller's structs afterwards. To ask a list about a key and a signature file means to get the inputs
+-- of the two Ed25519 checks that the caller must make (the questions), with `minisign_list_ask` or
+-- `minisign_list_ask_any`.
 use Rattle.std.specs.Prelude.{◌≡◌, ⊤, ◌==◌, ◌&&◌, ℕ, false, List, Option, Some, None, Result, Ok, Err}
 use Rattle.std.specs.Prelude.{MatchOption}
 use Rattle.std.specs.Prelude.{if◌then◌else◌}
@@ -36,7 +37,8 @@ abbrev pub IsCallMeaning : ℕ → List ℕ → Type 0
 IsCallMeaning n text =
     MatchOption (list_fault_numbered n) (IsErrorText n text) (λ e. text ≡ (list_row e).summary)
 
--- k is the number of the kind of the error that has the number n. List errors have kinds of the library.
+-- k is the number of the kind of the error that has the number n. List errors have the same kinds as the
+-- other errors of the library.
 abbrev pub IsCallKind : ℕ → ℕ → Type 0
 IsCallKind n k = MatchOption (list_fault_numbered n) (IsKindOf n k) (λ e. k ≡ kind_number (list_row e).kind)
 
@@ -64,13 +66,13 @@ asking_list_number v sig_text t room =
     asked_number (asked_strictly (is_strict_text v t)
     (with_public_key v (check_buffer_if_read (read_under v false sig_text) room)))
 
--- q holds the questions for the key and the parsed signature file, with the digest of the list. The bytes
--- begin with the message of the second check.
+-- q holds the questions for the key and the parsed signature file, with the digest of the list. The caller's
+-- buffer begins with the message of the second check.
 abbrev pub AreListQuestions : Questions → List ℕ → PublicKeyValue → SignatureTextRecord → List ℕ → Type 0
 AreListQuestions q bytes v t text = AreQuestions q bytes v t × (q.digest ≡ blake2b_digest 64 text)
 
--- The list was asked about this key, this signature file, its name (if one is given) and its text, and
--- `first` and `second` are the numbers for the results of the two checks with the scheme.
+-- The list was asked about this key, this signature file, the name of the list (if one is given) and the text
+-- of the list. `first` and `second` are the numbers for the results of the two Ed25519 checks.
 pub record IsAnsweredList (l : ListValue) (accepts : Verifier) (v : PublicKeyValue) (sig_text : List ℕ)
     (name : Option (List ℕ)) (text : List ℕ)
     (first second : ℕ) : Type 0 where

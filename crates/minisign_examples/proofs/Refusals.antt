@@ -1,4 +1,5 @@
--- Lemmas about errors that are passed on, and about results that may also be out of memory.
+-- Lemmas about errors that are passed on, and about calls that return the specified result or run out of
+-- memory.
 use Rattle.std.specs.Prelude.{◌≡◌, ◌⊎◌, Result, Ok, Err, IfErr, IsErrAnd}
 use Rattle.std.proofs.Common.{subst, sym, inl, inr}
 use Rattle.minisign.specs.Fault.{Fault, Named}
@@ -11,14 +12,14 @@ pub passed_up : {T E : Type 0} (r : Result T E) (e : E) (P : E → Type 0) → I
 passed_up (Ok x) e P is p = tt
 passed_up (Err y) e P is p = subst P (sym is) p
 
--- The error that a call returned is the error in `value`, its specified result, or an allocation
+-- If a call returned an error, it is the error in its specified result, which is `value`, or an allocation
 -- failed.
 pub function_refused : {V : Type 0} (e : Fault) (value : Result V Fault) → IsValueOrNoMemory (Err e) value
     → (e ≡ Named OutOfMemory) ⊎ (value ≡ Err e)
 function_refused e value (inl is) = inr (sym is)
 function_refused e value (inr memory) = inl (cc memory)
 
--- The value that a call returned is the value in `value`, its specified result.
+-- If a call returned a value, it is the value in its specified result, which is `value`.
 pub specified_value : {V : Type 0} (v : V) (value : Result V Fault) → IsValueOrNoMemory (Ok v) value
     → value ≡ Ok v
 specified_value v value (inl is) = sym is

@@ -6,10 +6,11 @@ use Rattle.std.proofs.Common.{◌∷◌, ◌++◌, codes, map}
 use Rattle.minisign_external.specs.StrictEd25519.{field_prime, group_order, is_strict_point}
 use Rattle.minisign_external.specs.StrictEd25519.{is_strict_signature, number_of, order_eight_y}
 
--- Bytes from their hexadecimal digits.
+-- The value of a hexadecimal digit.
 abbrev digit : ℕ → ℕ
 digit c = if nat_le 97 c then c - 87 else c - 48
 
+-- The bytes for these hexadecimal digits.
 abbrev hex : List ℕ → List ℕ
 hex (a ∷ b ∷ rest) = (16 * digit a + digit b) ∷ hex rest
 hex rest = []
@@ -33,8 +34,9 @@ pub group_order-bytes : group_order
     ≡ number_of (hex (codes "edd3f55c1a631258d69cf7a2def9de1400000000000000000000000000000010"))
 group_order-bytes = refl
 
--- Points: those that libsodium rejects for their order or as not canonical, with and without the sign bit;
--- two points whose y coordinates are 2 and the prime minus 2; and the public key of RFC 8032.
+-- Points: those that libsodium rejects because of their order or as not canonical, most of them without and
+-- with the sign bit; two points with the y coordinates 2 and the prime minus 2, which are accepted although
+-- their neighbours are rejected; and the public key of RFC 8032.
 abbrev points : List (List ℕ)
 points =
     hex (codes "0000000000000000000000000000000000000000000000000000000000000000")

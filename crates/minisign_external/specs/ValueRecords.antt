@@ -1,5 +1,7 @@
 -- The records of keys and signatures, which are the bytes that the base64 in their files encodes: how the
--- structs are read from records and written to them.
+-- structs are read from records and written to them. A secret key is unopened as long as it was only read. It
+-- is opened when its fields were checked, after decryption if it was encrypted. An unsealed key is not
+-- encrypted.
 use Rattle.std.specs.Prelude.{◌==◌, ◌||◌, ℕ, nat_le, Bool, if◌then◌else◌, bytes_eq, List, ◌++◌, codes}
 use Rattle.std.specs.Prelude.{length, take, drop, replicate, Result, Ok, Err}
 use Rattle.minisign_base.specs.Fault.{Fault}
@@ -103,7 +105,7 @@ unopened_in bytes = require (nat_le 158 (length bytes)) RecordTooShort (Ok (read
 abbrev pub unsealed_algorithms : List ℕ
 unsealed_algorithms = legacy_algorithm ++ no_kdf ++ codes "B2"
 
--- The 158 bytes of an open key that is not encrypted.
+-- The 158 bytes of an opened key, written without encryption.
 abbrev pub secret_key_record : SecretKeyValue → Result (List ℕ) Misuse
 secret_key_record v =
     if is_opened v then Ok (secret_key_bytes (unsealed_key v.key_id v.secret)) else Err KeyNotOpened

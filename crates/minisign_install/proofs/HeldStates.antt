@@ -100,13 +100,13 @@ pub later_error : (e : Option InstallFault) (fault : InstallFault) → error_num
 later_error None fault some = absurd (some refl)
 later_error (Some f) fault some = refl
 
--- If the error stays the same, the result of the step is Ok.
+-- If the error is the same before and after the step, the result of the step is Ok.
 pub ok_for_same_error : (e : Option InstallFault) → Ok tt ≡ result_of e e
 ok_for_same_error None = refl
 ok_for_same_error (Some f) = refl
 
--- If the struct represents the state with the operation and the error that `reject` sets, it represents the
--- state after `reject`.
+-- If the old struct p represents s, and the new struct q represents s with the operation and the error that
+-- `reject` sets, then q represents the state after `reject`.
 pub rejected_state : (p q : Progress) (s : State) (fault : InstallFault) (op : Operation) → HoldsState p s
     → op ≡ (if has_files (operation_of p.due) then fsm.RemoveFiles else fsm.Rejected)
     → HoldsState q (go op (record s { error = Some fault })) → HoldsState q (reject fault s)
@@ -115,7 +115,7 @@ rejected_state p q s fault op state_held is after_it =
     (is ∙ ap (λ (d : Operation). if has_files d then fsm.RemoveFiles else fsm.Rejected)
     (sym (due_is p s state_held))) after_it
 
--- If a step does not change the error, its result is Ok.
+-- The same for two states.
 pub ok_if_error_unchanged : (s t : State) → t.error ≡ s.error → Ok tt ≡ result_of s.error t.error
 ok_if_error_unchanged s t is = ok_for_same_error s.error ∙ ap (result_of s.error) (sym is)
 
@@ -189,7 +189,8 @@ pub options_are : (p : Progress) (s : State) (state_held : HoldsState p s)
 options_are p s state_held = ap (λ (x : State). x.options) state_held.state
 
 -- At ReadRecord, the event that the record was read leads to this state. At another operation, it does not
--- fit (no_record_at). The lemmas below that end in _at come in the same pairs, one for each event.
+-- fit (no_record_at). Most lemmas below that end in _at come in such pairs: one says which state follows at
+-- the operations that the event fits, and the other that the event does not fit at the other operations.
 pub record_at : (op : Operation) (found : Option (List ℕ)) (s : State) (r : Result Recorded InstallFault)
     → is_reading_record op ≡ true → judge_record s.options found ≡ r
     → after op (RecordRead found) s ≡ Some (after_record r s)
@@ -204,7 +205,7 @@ no_record_at _ found s is = refl
 -- == The question ==
 
 -- No question is due in a state in which no operation is due, before the signature file was read, or if no
--- key may have signed.
+-- public key is left that can have made the signature.
 pub no_question_if_nothing_due : (is_read : Bool) (key : Option (List ℕ)) (s : State) → s.due ≡ fsm.Nothing
     → None ≡ question_by is_read key s.due s
 no_question_if_nothing_due true (Some key) s at = sym (ap (λ (op : Operation). question_of op key s) at)
@@ -220,7 +221,8 @@ no_question_without_key s is none =
     ap (λ (key : Option (List ℕ)). question_by true key s.due s) none
     ∙ ap (λ (b : Bool). question_by b (first_key s.signers) s.due s) (sym is)
 
--- Otherwise the question under the first key is due, if the operation has one.
+-- Otherwise, if the operation checks a signature, the question is due whether the first of these keys accepts
+-- it.
 pub question_is_due : (s : State) (key : List ℕ) (q : Option Question) → (length s.signature == 64) ≡ true
     → Some key ≡ first_key s.signers → q ≡ question_of s.due key s → q ≡ question_due s
 question_is_due s key q is first same =
@@ -229,7 +231,7 @@ question_is_due s key q is first same =
 
 -- == The new record ==
 
--- The first of the keys that may have signed.
+-- The first of the keys that can have made the signature.
 pub key_is : (signers : List PublicKeyValue) (key : List ℕ) → first_key signers ≡ Some key
     → key_of signers ≡ key
 key_is [] key is = absurd (none-some key is)
@@ -239,8 +241,8 @@ below_when : (b : Bool) (v r : ℕ) → is_below (Some v) (when b r) ≡ true �
 below_when true v r is = refl
 below_when false v r is = absurd (true≢false (sym is))
 
--- A roll-back records the old version and key again; another installation records its own. These are the
--- fields of the struct.
+-- A roll-back records the version and the key of the old record again. Every other installation records the
+-- version and the key of the update. The four lemmas say in which fields of the struct these are.
 pub version_in_roll_back : (p : Progress) (s : State) → HoldsState p s → is_rolling_back s ≡ true
     → new_version s ≡ p.recorded.version
 version_in_roll_back p s state_held is =
@@ -326,7 +328,7 @@ with_signed_comment p s state_held = record {
   fed = state_held.fed;
 }
 
--- The error for the comment that the struct returns is that of the state.
+-- The error about the trusted comment, which the struct has as a number, is the error in the state.
 pub fault_found : (f : Option InstallFault) (n : ℕ) (r : Option InstallFault) → IsOwnNumber n f
     → ((e : InstallFault) → is_installer_fault e ≡ true → n ≡ install_number e → r ≡ Some e)
     → IfSome r (λ e. (is_installer_fault e ≡ true) × (n ≡ install_number e)) → r ≡ f
@@ -336,12 +338,13 @@ fault_found (Some f) n r (is, own) found holds = found f own is
 
 -- == Steps ==
 
--- The struct represents the state after the step, and the result is that of the step, if this is the state
--- after the event, or None if the event does not fit.
+-- The struct q represents the state after the step, and r is the result of the step. Here o is what `after`
+-- returns for the event: the next state, or None if the event does not fit.
 abbrev StepsTo : Event → State → Result Unit (Refusal InstallFault) → Progress → Option State → Type 0
 StepsTo e s r q o = HoldsState q (answer s o).1 × (r ≡ (answer s o).0)
 
--- If the event fits, a struct that represents the next state represents the state after the step.
+-- If the event fits, and q represents the state that `after` returns with the result r, then q and r are as
+-- after the whole step.
 pub event_fits : (s t : State) (e : Event) (p q : Progress) (r : Result Unit (Refusal InstallFault))
     → HoldsState p s → after (operation_of p.due) e s ≡ Some t → RunLeadsTo s t r q → Steps e s r q
 event_fits s t e p q r state_held is leads =

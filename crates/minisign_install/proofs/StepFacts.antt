@@ -1,6 +1,8 @@
--- Whole runs of the installer. Each fact gives the options and the events of a run, the operations that were
--- due, and the end of the run. The expected results are those of docs/INSTALLING.md. The keys, digests and
--- signatures are not real: the events say whether Ed25519 accepts a signature.
+-- Whole runs of the installer. Each fact gives the options and the events of a run, and one thing that
+-- follows from them: the operations that were due, the exit status, the error or a field of the last state.
+-- Runs of different names may have the same events, if they are different situations for a user. The expected
+-- results are those of docs/INSTALLING.md. The keys, digests and signatures are not real: the events say
+-- whether Ed25519 accepts a signature.
 use Rattle.std.proofs.Common.{◌≡◌, refl, ℕ, true, false, List, [], ◌∷◌, ◌++◌, codes}
 use Rattle.std.specs.Prelude.{Option, Some, None, Result, Ok, Err, replicate, take}
 use Rattle.std.specs.Str.{chars, is_utf8}
@@ -75,7 +77,7 @@ record_2 = codes "version:2" ++ 10 ∷ replicate 64 48 ++ 10 ∷ replicate 128 5
 abbrev record_of_other_key : List ℕ
 record_of_other_key = codes "version:2" ++ 10 ∷ replicate 64 49 ++ 10 ∷ replicate 128 50
 
--- A record of version 0.2, which names neither key nor digest.
+-- A record that version 0.2 of the program wrote, which names neither key nor digest.
 abbrev old_record : List ℕ
 old_record = codes "version:2"
 
@@ -164,7 +166,7 @@ copied =
 abbrev put_in_place : List Event
 put_in_place = Done ∷ Done ∷ Done ∷ Done ∷ Done ∷ Done ∷ Done ∷ Done ∷ Done ∷ []
 
--- All operations after the checks succeeded.
+-- The events after the check of the trusted comment succeeded, until the target is installed.
 abbrev installed : List Event
 installed = copied ++ valid ∷ put_in_place
 

@@ -1,5 +1,5 @@
-//! The record beside the target: the version number of the newest update after the label of its field, the
-//! key that signed the update, and the digest of its data.
+//! The record beside the target, a file of three lines about the newest update: `version:` or `timestamp:`
+//! with its version number, the key that signed it, and the digest of its data, both in hexadecimal digits.
 
 ghost use Rattle.std.specs.Prelude.{Some, ◌≡◌, ◌⊎◌, ℕ, ◌==◌, ◌<◌, ◌≤◌, ◌+◌, ◌*◌, ◌++◌, ◌∷◌, []};
 ghost use Rattle.std.specs.Prelude.{MatchOption, length, take, drop};
@@ -45,7 +45,8 @@ pub(crate) fn unfit_record_fault(bytes: &[u8], numbering: Numbering) -> InstallF
     }
 }
 
-// Returns the version number of a record, if it has one for this field.
+// Returns the version number of a record, if it has one for this field. A number without a label counts for
+// each field.
 pub(crate) fn number_for(bytes: &[u8], numbering: Numbering) -> Option<u64>
     ensures { MatchOption result (HasNoNumber numbering bytes.now) (IsNumberFor numbering bytes.now) }
 {
@@ -54,6 +55,7 @@ pub(crate) fn number_for(bytes: &[u8], numbering: Numbering) -> Option<u64>
     };
     match strip(text, numbering.label()) {
         Some(value) => number_of(value),
+        // Both cases are written out, because the prover needs them.
         None => match number_of(text) {
             Some(number) => Some(number),
             None => None,
@@ -61,8 +63,8 @@ pub(crate) fn number_for(bytes: &[u8], numbering: Numbering) -> Option<u64>
     }
 }
 
-// Returns the part of a record that contains its version number: a short record, without a line feed at its
-// end, or the first of three lines.
+// Returns the part of a record that contains its version number: the first of three lines, or a record of at
+// most 64 bytes, except for a line feed at its end.
 fn record_text(bytes: &[u8]) -> &[u8]
     ensures { result.now ≡ record_text bytes.now }
 {
@@ -86,7 +88,7 @@ fn first_line(bytes: &[u8]) -> &[u8]
     line
 }
 
-// Returns true if the record is long enough for three lines, and a line feed ends the first one.
+// Returns true if the record has a length that three lines can have, and a line feed ends the first one.
 fn has_last_lines(bytes: &[u8]) -> bool
     ensures { result ≡ has_last_lines bytes.now }
 {

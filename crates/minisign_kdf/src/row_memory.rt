@@ -1,4 +1,5 @@
-//! Memory for the kept rows of a part: a vector, or memory that the caller passes in.
+//! Memory for the rows of scrypt that are kept while one of its parts is computed (V in RFC 7914): a
+//! vector, or memory that the caller passes in.
 
 ghost use Rattle.std.specs.Prelude.{◌≡◌, ℕ, ◌+◌, ◌≤◌, ◌++◌, List, [], length, take, vec_capacity};
 
