@@ -1207,6 +1207,7 @@ pub extern "C" fn minisign_list_begin(entry: &EntryValue, file: &mut FileValue) 
     // fed no data. Otherwise the result is the number of that error, and the state is unchanged.
     ensures begun { (d : ListedDigest) → entry_digest entry.now ≡ Ok d
         → (result ≡ 0) × IsFedValue file.new d [] }
+    ensures was_read { result ≡ 0 → (d : ListedDigest) × (entry_digest entry.now ≡ Ok d) }
     ensures refused { 0 < result → (entry_digest entry.now ≡ Err EntryNotRead)
         × (result ≡ misuse_number EntryNotRead) × (file.new ≡ file.old) }
 {

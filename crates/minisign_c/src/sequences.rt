@@ -295,6 +295,7 @@ fn open(alloc: Global, key_text: &KeyText<'_>, key: &mut SecretKeyValue) -> u32
     ensures refused { 0 < result → (r : Refusal Fault) × (result ≡ refusal_number fault_number r)
         × IsTextOpeningRefusal key_text.now.text.now (option_copied key_text.now.password)
         key_text.now.most_rows r }
+    ensures unchanged { 0 < result → key.new ≡ key.old }
 {
     let mut unopened = no_unopened_key();
     let number = minisign_read_secret_key(key_text.text, &mut unopened);
@@ -318,6 +319,7 @@ fn open_parsed(
     ensures refused { 0 < result → (r : Refusal Fault) × (result ≡ refusal_number fault_number r)
         × IsOpeningRefusal (unopened_record unopened.now) (option_copied key_text.now.password)
         key_text.now.most_rows r }
+    ensures unchanged { 0 < result → key.new ≡ key.old }
 {
     match key_text.password {
         Some(password) => minisign_open_sealed_key(
@@ -391,6 +393,7 @@ fn public_half(key: &SecretKeyValue, public_key: &mut PublicKeyValue) -> u32
     ensures success { result ≡ 0 → (is_opened key.now ≡ true) × (public_value_of key.now ≡ Ok public_key.new)
         × (public_key.new.key_id ≡ key.now.key_id) }
     ensures refused { 0 < result → (result ≡ misuse_number KeyNotOpened) × (is_opened key.now ≡ false) }
+    ensures unchanged { 0 < result → public_key.new ≡ public_key.old }
 {
     minisign_public_key_of(key, public_key)
 }
