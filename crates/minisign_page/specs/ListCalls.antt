@@ -56,13 +56,13 @@ asking_list_number v sig_text t room =
     asked_number (asked_strictly (is_strict_text v t)
     (with_public_key v (check_buffer_if_read (read_under v false sig_text) room)))
 
--- q holds the questions for the key and the parsed signature file, with the digest of the list. The bytes
--- begin with the message of the second check.
+-- q holds the questions for the key and the parsed signature file, with the digest of the list. The caller's
+-- buffer begins with the message of the second check.
 abbrev pub AreListQuestions : Questions → List ℕ → PublicKeyValue → SignatureTextRecord → List ℕ → Type 0
 AreListQuestions q bytes v t text = AreQuestions q bytes v t × (q.digest ≡ blake2b_digest 64 text)
 
--- The list was asked about this key, this signature file, its name (if one is given) and its text, and
--- `first` and `second` are the numbers for the results of the two checks with the scheme.
+-- The list was asked about this key, this signature file, the name of the list (if one is given) and the text
+-- of the list. `first` and `second` are the numbers for the results of the two Ed25519 checks.
 pub record IsAnsweredList (l : ListValue) (accepts : Verifier) (v : PublicKeyValue) (sig_text : List ℕ)
     (name : Option (List ℕ)) (text : List ℕ)
     (first second : ℕ) : Type 0 where
