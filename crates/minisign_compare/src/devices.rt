@@ -1,7 +1,9 @@
 //! The devices that a request describes. The source counts its reads, and the random source its bytes.
 
-ghost use Rattle.std.specs.Prelude.{◌≡◌, ◌≤◌, Some, length};
-ghost use Rattle.std.specs.Option.{is_some};
+ghost use Rattle.std.specs.Prelude.{◌≡◌, ◌≤◌, ◌+◌, ◌-◌, ◌^◌, Some, IfErr, IfOk, IsOk, OnOk, is_ok, length, min};
+ghost use Rattle.std.specs.Prelude.{MatchOption, drop, option_map};
+ghost use Rattle.std.specs.Option.{is_some, unwrap_or};
+ghost use Rattle.minisign_base.specs.Devices.{HasFilled, HasGoneBack, HasMarked, HasRead};
 
 use crate::refusals::Refusal;
 use crate::words::{bytes_of, number_of};
@@ -129,7 +131,22 @@ impl<'a> Source for CountedSource<'a> {
 
     ghost faults = { λ s. s.faults };
 
-    fn read(&mut self, buf: &mut [u8]) -> Result<usize, DeviceFault> {
+    // The read is counted, also if it fails. On success, the position is after the bytes that were read.
+    fn read(&mut self, buf: &mut [u8]) -> Result<usize, DeviceFault>
+        ensures read { HasRead ⟦<CountedSource<'a> as Source>⟧.ahead ⟦<CountedSource<'a> as Source>⟧.behind
+            ⟦<CountedSource<'a> as Source>⟧.since ⟦<CountedSource<'a> as Source>⟧.is_marked
+            ⟦<CountedSource<'a> as Source>⟧.left ⟦<CountedSource<'a> as Source>⟧.faults
+            self.old self.new buf.new result }
+        ensures counted { self.new.reads ≡ min (self.old.reads + 1) (2 ^ 64 - 1) }
+        ensures after_success { IfOk result (λ n. (self.new.rest.now ≡ drop n self.old.rest.now)
+            × (self.new.place ≡ min (self.old.place + n) (2 ^ 64 - 1))
+            × (self.new.faults ≡ self.old.faults)) }
+        ensures after_error { IfErr result (λ _. (self.new.rest ≡ self.old.rest)
+            × (self.new.place ≡ self.old.place)
+            × (self.new.faults ≡ min (self.old.faults + 1) (2 ^ 64 - 1))) }
+        ensures kept { (self.new.marked ≡ self.old.marked) × (self.new.second ≡ self.old.second)
+            × (self.new.chunk ≡ self.old.chunk) × (self.new.failing_read ≡ self.old.failing_read) }
+    {
         self.reads = self.reads.saturating_add(1);
         if self.reads == self.failing_read {
             self.faults = self.faults.saturating_add(1);
@@ -147,12 +164,41 @@ impl<'a> Source for CountedSource<'a> {
 impl<'a> Rereader for CountedSource<'a> {
     ghost steady = { λ _. ⊥ };
 
-    fn mark(&mut self) -> Result<(), DeviceFault> {
+    // Always succeeds. Everything but the mark is unchanged.
+    fn mark(&mut self) -> Result<(), DeviceFault>
+        ensures succeeds { IsOk result }
+        ensures mark { HasMarked ⟦<CountedSource<'a> as Rereader>⟧.steady ⟦<CountedSource<'a> as Source>⟧.ahead
+            ⟦<CountedSource<'a> as Source>⟧.behind ⟦<CountedSource<'a> as Source>⟧.since
+            ⟦<CountedSource<'a> as Source>⟧.is_marked ⟦<CountedSource<'a> as Source>⟧.faults
+            self.old self.new result }
+        ensures marked { MatchOption self.new.marked ⊥
+            (λ m. (m.0.now ≡ self.old.rest.now) × (m.1 ≡ self.old.place)) }
+        ensures kept { (self.new.rest.now ≡ self.old.rest.now) × (self.new.second ≡ self.old.second)
+            × (self.new.place ≡ self.old.place) × (self.new.chunk ≡ self.old.chunk)
+            × (self.new.failing_read ≡ self.old.failing_read) × (self.new.reads ≡ self.old.reads)
+            × (self.new.faults ≡ self.old.faults) }
+    {
         self.marked = Some((self.rest, self.place));
         Ok(())
     }
 
-    fn back(&mut self) -> Result<(), DeviceFault> {
+    // Fails exactly if no place is marked. On success, the position is the marked one.
+    fn back(&mut self) -> Result<(), DeviceFault>
+        ensures succeeds { is_ok result ≡ is_some self.old.marked }
+        ensures back { HasGoneBack ⟦<CountedSource<'a> as Source>⟧.ahead
+            ⟦<CountedSource<'a> as Source>⟧.behind ⟦<CountedSource<'a> as Source>⟧.since
+            ⟦<CountedSource<'a> as Source>⟧.is_marked ⟦<CountedSource<'a> as Source>⟧.faults
+            self.old self.new result }
+        ensures place { OnOk result (option_map (λ p. p.1) self.old.marked ≡ Some self.new.place) }
+        // On success, the unread bytes are those after the marked position, of other data if there is any.
+        ensures rest { OnOk result (MatchOption self.old.marked ⊥ (λ m. self.new.rest.now
+            ≡ unwrap_or (option_map (λ other. drop m.1 other.now) self.old.second) m.0.now)) }
+        ensures unchanged { IfErr result (λ _. (self.new.rest ≡ self.old.rest)
+            × (self.new.place ≡ self.old.place)) }
+        ensures kept { (self.new.marked ≡ self.old.marked) × (self.new.second ≡ self.old.second)
+            × (self.new.chunk ≡ self.old.chunk) × (self.new.failing_read ≡ self.old.failing_read)
+            × (self.new.reads ≡ self.old.reads) }
+    {
         let Some((rest, place)) = self.marked else {
             self.faults = self.faults.saturating_add(1);
             return Err(DeviceFault);
@@ -167,7 +213,9 @@ impl<'a> Rereader for CountedSource<'a> {
 }
 
 // Returns the bytes from a position on, or none if the position is after them.
-fn from_place(bytes: &[u8], place: usize) -> &[u8] {
+fn from_place(bytes: &[u8], place: usize) -> &[u8]
+    ensures { result.now ≡ drop place bytes.now }
+{
     if place < bytes.len() {
         &bytes[place..]
     } else {
@@ -236,7 +284,13 @@ impl<'a> RandomSource for CountedRandom<'a> {
 
     ghost random_faults = { λ s. ⟦<FixedRandom<'a> as RandomSource>⟧.random_faults s.random };
 
-    fn fill(&mut self, buf: &mut [u8]) -> Result<(), DeviceFault> {
+    // The bytes are counted on success.
+    fn fill(&mut self, buf: &mut [u8]) -> Result<(), DeviceFault>
+        ensures fill { HasFilled ⟦<CountedRandom<'a> as RandomSource>⟧.random_ahead
+            ⟦<CountedRandom<'a> as RandomSource>⟧.random_faults self.old self.new buf.new result }
+        ensures counted { OnOk result (self.new.drawn ≡ min (self.old.drawn + length buf.old) (2 ^ 64 - 1)) }
+        ensures not_counted { IfErr result (λ _. self.new.drawn ≡ self.old.drawn) }
+    {
         match self.random.fill(buf) {
             Ok(()) => {
                 self.drawn = self.drawn.saturating_add(buf.len() as u64);

@@ -1,7 +1,7 @@
 //! The answer to a request: the result of the call, the bytes that it wrote, and the numbers of reads and of
 //! random bytes.
 
-ghost use Rattle.std.specs.Prelude.{◌≡◌, [], ◌++◌, false, OnOk, codes, if◌then◌else◌, string_bytes};
+ghost use Rattle.std.specs.Prelude.{◌≡◌, [], ◌++◌, false, true, OnOk, codes, if◌then◌else◌, string_bytes};
 ghost use Rattle.hex.specs.Hex.{encode_lower};
 ghost use Rattle.minisign_compare.specs.Fields.{begun};
 
@@ -45,8 +45,9 @@ impl Fields {
 
     /// Adds a field of bytes: `x` and two lowercase hexadecimal digits for each byte.
     pub fn bytes(&mut self, name: &str, bytes: &[u8])
-        ensures { self.new.is_short ≡ false → string_bytes self.new.text
+        ensures text { self.new.is_short ≡ false → string_bytes self.new.text
             ≡ begun (string_bytes self.old.text) name.now ++ codes "x" ++ encode_lower bytes.now }
+        ensures stays_short { self.old.is_short ≡ true → self.new.is_short ≡ true }
     {
         match hex::encode(self.alloc, bytes) {
             Ok(digits) => self.put(name, "x", digits.as_str()),
@@ -55,7 +56,9 @@ impl Fields {
     }
 
     /// Adds a field of a decimal number.
-    pub fn number(&mut self, name: &str, number: u64) {
+    pub fn number(&mut self, name: &str, number: u64)
+        ensures { self.old.is_short ≡ true → self.new.is_short ≡ true }
+    {
         match format!(in self.alloc; "{number}") {
             Ok(digits) => self.put(name, "", digits.as_str()),
             Err(_) => self.is_short = true,
@@ -64,16 +67,18 @@ impl Fields {
 
     /// Adds a field of a flag: 1 or 0.
     pub fn flag(&mut self, name: &str, flag: bool)
-        ensures { self.new.is_short ≡ false → string_bytes self.new.text
+        ensures text { self.new.is_short ≡ false → string_bytes self.new.text
             ≡ begun (string_bytes self.old.text) name.now ++ (if flag then codes "1" else codes "0") }
+        ensures stays_short { self.old.is_short ≡ true → self.new.is_short ≡ true }
     {
         self.put(name, "", if flag { "1" } else { "0" });
     }
 
     // Adds a field with a mark before the value.
     fn put(&mut self, name: &str, mark: &str, value: &str)
-        ensures { self.new.is_short ≡ false → string_bytes self.new.text
+        ensures text { self.new.is_short ≡ false → string_bytes self.new.text
             ≡ begun (string_bytes self.old.text) name.now ++ mark.now ++ value.now }
+        ensures stays_short { self.old.is_short ≡ true → self.new.is_short ≡ true }
     {
         if self.push(name, mark, value).is_err() {
             self.is_short = true;
@@ -84,6 +89,7 @@ impl Fields {
     fn push(&mut self, name: &str, mark: &str, value: &str) -> Result<(), AllocError>
         ensures text { OnOk result (string_bytes self.new.text
             ≡ begun (string_bytes self.old.text) name.now ++ mark.now ++ value.now) }
+        ensures kept { self.new.is_short ≡ self.old.is_short }
     {
         if !self.text.is_empty() {
             self.text.push_str(" ")?;
