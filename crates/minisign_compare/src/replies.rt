@@ -1,7 +1,7 @@
 //! The answer to a request: the result of the call, the bytes that it wrote, and the numbers of reads and of
 //! random bytes.
 
-ghost use Rattle.std.specs.Prelude.{◌≡◌, [], ◌++◌, false, true, OnOk, codes, if◌then◌else◌, string_bytes};
+ghost use Rattle.std.specs.Prelude.{◌≡◌, [], ◌++◌, false, true, OnOk, codes, decimal, if◌then◌else◌, string_bytes};
 ghost use Rattle.hex.specs.Hex.{encode_lower};
 ghost use Rattle.minisign_compare.specs.Fields.{begun};
 
@@ -57,7 +57,9 @@ impl Fields {
 
     /// Adds a field of a decimal number.
     pub fn number(&mut self, name: &str, number: u64)
-        ensures { self.old.is_short ≡ true → self.new.is_short ≡ true }
+        ensures text { self.new.is_short ≡ false → string_bytes self.new.text
+            ≡ begun (string_bytes self.old.text) name.now ++ decimal number }
+        ensures stays_short { self.old.is_short ≡ true → self.new.is_short ≡ true }
     {
         match format!(in self.alloc; "{number}") {
             Ok(digits) => self.put(name, "", digits.as_str()),
