@@ -104,7 +104,7 @@ SignatureLeads_determines judged time s r q new other_new before x y one other s
 class StateClause(NamedTuple):
     """A clause about the state that a struct represents: the premises, and the conclusion."""
 
-    # What follows `ensures` if a proof cites the clause of a call.
+    # The name of the clause, with a dot in front, as a proof appends it to `ensures`. It is empty if a proof needs no name.
     label: str
     premises: tuple
     conclusion: str
