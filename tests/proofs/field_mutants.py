@@ -26,12 +26,13 @@ A mutant is rejected in one of three ways:
     the call, and to end without one for the call with the reset. If the search gave up at a success with a value of zeros,
     the success is tried with a value from the caller.
 
-A proved mutant is a failure, because the contract allows the wrong function. A rejection that still says nothing is a failure
-too, and so is a mutant that does not compile. There are two exceptions. One is a mutant that changes nothing: the prover proves
-that in the unchanged function the field already has this value at that place, or that the error cannot occur. The other is a mutant that is listed in
-tests/proofs/accepted_mutants.txt with a reason: no contract can reject it (for example because the kit's contract of a call of
-std does not say when the call fails), or the clause that it violates and the input for which it does, because the search stops
-at its limit. A line of this list may be a pattern, in which a star stands for any text.
+A proved mutant is a failure, because the contract allows the wrong function. A rejection that still says nothing is a
+failure too, and so is a mutant that does not compile. There are two exceptions. One is a mutant that changes nothing: the
+prover proves that in the unchanged function the field already has this value at that place, or that the error cannot occur.
+The other is a mutant that is listed in tests/proofs/accepted_mutants.txt with a reason: no contract can reject it (for
+example because the kit's contract of a call of std does not say when the call fails), nothing uses what it changes (for
+example after an error), or the clause that it violates and the input for which it does, because the search stops at its
+limit. A line of this list may be a pattern, in which a star stands for any text.
 
 No mutants are made of
 
