@@ -8,6 +8,7 @@
   * The makefile counts a script that crashes, or that prints no such line, as failed.
   * tests/packages.txt, which README.md tells the reader to install, names each package that a script needs.
   * Without the kit, `.ci/run` prints one line and starts nothing.
+  * `.ci/run` fails if make is killed, or does not run everything.
 
 The script prints a line for each failure; the last line is `N passed, M failed`.
 
@@ -72,6 +73,16 @@ RUNS = [
     ("ci", "good failing", "needs_proofs", "121 passed, 1 failed", False),
     ("ci", "good", "needs_proofs reads_ci_output", "120 passed, 0 failed", True),
 ]
+# A rule that does what the rule `ci` does: it writes the numbers of a script.
+CI_RULE = "\t@mkdir -p out/ci && echo 3 passed, 0 failed >out/ci/script.count\n"
+# Makefiles for a copy of `.ci/run`, the expected last line, and true if `.ci/run` must succeed. Each run finds the numbers of an
+# earlier run, `9 passed, 0 failed`, which must not be added.
+CI_RUNS = {
+    "everything runs": (f"ci:\n{CI_RULE}", "3 passed, 0 failed", True),
+    "make is killed": (f"ci:\n{CI_RULE}\t@kill -9 $$PPID\n", "3 passed, 1 failed", False),
+    "a script has no rule": (f"ci: script missing\nscript:\n{CI_RULE}", "3 passed, 1 failed", False),
+    "the makefile is damaged": (f"ci:\n{CI_RULE}endif\n", "0 passed, 1 failed", False),
+}
 MAKE = ("--no-print-directory", "--output-sync=target", "-s", "-k", "-j3", "-f", "tests/Makefile")
 
 
@@ -180,12 +191,33 @@ def check_ci(checks, scratch):
     checks.check(not started, f".ci/run without the kit started {started}")
 
 
+def check_ci_failures(checks, scratch):
+    """Checks the last line and the exit status of a copy of `.ci/run` with the makefiles of CI_RUNS."""
+    programs = os.path.join(scratch, "kit")
+    os.mkdir(programs)
+    os.chmod(write(programs, "rt", b"#!/bin/sh\n"), 0o755)
+    for number, (description, (makefile, last_line, must_succeed)) in enumerate(CI_RUNS.items()):
+        top = os.path.join(scratch, f"ci-{number}")
+        for directory in (".ci", "tests", "out/ci"):
+            os.makedirs(os.path.join(top, directory))
+        for name in (".ci/run", "tests/counted.sh"):
+            shutil.copy(os.path.join(TOP, name), os.path.join(top, name))
+        write(os.path.join(top, "tests"), "Makefile", makefile.encode())
+        write(os.path.join(top, "out", "ci"), "earlier.count", b"9 passed, 0 failed\n")
+        status, output, _ = run_with_stderr(["bash", os.path.join(top, ".ci", "run")], scratch, seconds=SECONDS,
+                                            PATH=f"{programs}:{os.environ['PATH']}", CI="")
+        lines = output.splitlines()
+        checks.check(lines[-1:] == [last_line] and (status == 0) == must_succeed,
+                     f".ci/run, {description}: exit status {status}, output {lines}, expected {last_line!r}")
+
+
 def check_all(checks, scratch):
     os.chdir(TOP)
     check_list(checks)
     check_totals(checks, scratch)
     check_packages(checks)
     check_ci(checks, scratch)
+    check_ci_failures(checks, scratch)
 
 
 if __name__ == "__main__":
