@@ -1,7 +1,10 @@
 //! Sinks (writers) for tests: `LimitedSink` accepts a limited number of bytes or fails,
 //! `BufferedSink` holds bytes back until a flush, and `Counting` only counts bytes.
 
-ghost use Rattle.std.specs.Prelude.{◌≡◌, Some, None, [], ◌++◌, ◌<◌};
+ghost use Rattle.std.specs.Prelude.{◌≡◌, ◌++◌, ◌+◌, ◌-◌, ◌^◌, ◌&&◌, Some, None, [], true, false};
+ghost use Rattle.std.specs.Prelude.{IfErr, IfOk, IsOk, IsOkAnd, OnOk, is_ok, length, ltb, min};
+ghost use Rattle.minisign_base.specs.Devices.{HasFlushed, HasWritten};
+ghost use Rattle.minisign_fixtures.specs.Turns.{after_call, failure_after, next_succeeds, no_failure};
 
 use crate::devices::turn::Turn;
 use minisign_base::devices::DeviceFault;
@@ -30,6 +33,8 @@ impl LimitedSink {
     pub fn new(alloc: Global, room: usize) -> LimitedSink
         ensures taken { ⟦<LimitedSink as Sink>⟧.taken result ≡ Some [] }
         ensures faults { ⟦<LimitedSink as Sink>⟧.sink_faults result ≡ 0 }
+        ensures limits { (result.room ≡ room) × (result.most ≡ 2 ^ 64 - 1) × (result.flushes ≡ 2 ^ 64 - 1) }
+        ensures turn { result.turn ≡ no_failure }
     {
         LimitedSink {
             taken: VecSink::new(alloc),
@@ -43,7 +48,9 @@ impl LimitedSink {
 
     /// Limits each write to this number of bytes.
     pub fn max_per_write(mut self, most: usize) -> LimitedSink
-        ensures taken { ⟦<LimitedSink as Sink>⟧.taken result ≡ ⟦<LimitedSink as Sink>⟧.taken self }
+        ensures limit { result.most ≡ most }
+        ensures kept { (result.taken ≡ self.taken) × (result.room ≡ self.room)
+            × (result.flushes ≡ self.flushes) × (result.turn ≡ self.turn) × (result.faults ≡ self.faults) }
     {
         self.most = most;
         self
@@ -51,7 +58,9 @@ impl LimitedSink {
 
     /// Lets this number of flushes succeed. All later flushes fail.
     pub fn flushed(mut self, times: usize) -> LimitedSink
-        ensures taken { ⟦<LimitedSink as Sink>⟧.taken result ≡ ⟦<LimitedSink as Sink>⟧.taken self }
+        ensures limit { result.flushes ≡ times }
+        ensures kept { (result.taken ≡ self.taken) × (result.room ≡ self.room) × (result.most ≡ self.most)
+            × (result.turn ≡ self.turn) × (result.faults ≡ self.faults) }
     {
         self.flushes = times;
         self
@@ -60,7 +69,9 @@ impl LimitedSink {
     /// Makes one call fail: the write or flush after this number of writes and flushes. Later calls
     /// succeed.
     pub fn failing_after(mut self, calls: usize) -> LimitedSink
-        ensures taken { ⟦<LimitedSink as Sink>⟧.taken result ≡ ⟦<LimitedSink as Sink>⟧.taken self }
+        ensures turn { result.turn ≡ failure_after calls false }
+        ensures kept { (result.taken ≡ self.taken) × (result.room ≡ self.room) × (result.most ≡ self.most)
+            × (result.flushes ≡ self.flushes) × (result.faults ≡ self.faults) }
     {
         self.turn = Turn::one_failure_after(calls);
         self
@@ -79,20 +90,44 @@ impl Sink for LimitedSink {
 
     ghost sink_faults = { λ s. s.faults };
 
-    fn write(&mut self, bytes: &[u8]) -> Result<usize, DeviceFault> {
+    // On success, as many bytes were written as the limits allow. Fails if it is the turn of this call to
+    // fail, if there are bytes but the limits allow none, or if an allocation fails.
+    fn write(&mut self, bytes: &[u8]) -> Result<usize, DeviceFault>
+        ensures takes { IfOk result (λ n. (n ≡ min (min (length bytes.now) self.old.room) self.old.most)
+            × (next_succeeds self.old.turn ≡ true)) }
+        ensures write { HasWritten ⟦<LimitedSink as Sink>⟧.taken ⟦<LimitedSink as Sink>⟧.flushed
+            ⟦<LimitedSink as Sink>⟧.sink_faults self.old self.new bytes.now result }
+        ensures room { IfOk result (λ n. self.new.room ≡ self.old.room - n) }
+        ensures refused { IfErr result (λ _. (self.new.room ≡ self.old.room)
+            × (self.new.faults ≡ min (self.old.faults + 1) (2 ^ 64 - 1))) }
+        ensures kept { (self.new.most ≡ self.old.most) × (self.new.flushes ≡ self.old.flushes) }
+        ensures turn { self.new.turn ≡ after_call self.old.turn }
+    {
         let n = bytes.len().min(self.room).min(self.most);
-        if self.turn.passes() && (n > 0 || bytes.is_empty()) {
-            let (front, _) = bytes.split_at(n);
-            if let Ok(taken) = self.taken.write(front) {
-                self.room -= taken;
-                return Ok(taken);
-            }
+        let written = if self.turn.passes() && (n > 0 || bytes.is_empty()) {
+            self.taken.write(&bytes[..n])
+        } else {
+            Err(DeviceFault)
+        };
+        match written {
+            Ok(taken) => self.room -= taken,
+            Err(_) => self.faults = self.faults.saturating_add(1),
         }
-        self.faults = self.faults.saturating_add(1);
-        Err(DeviceFault)
+        written
     }
 
-    fn flush(&mut self) -> Result<(), DeviceFault> {
+    // Fails exactly if it is the turn of this call to fail, or if no flush may succeed any more.
+    fn flush(&mut self) -> Result<(), DeviceFault>
+        ensures succeeds { is_ok result ≡ (next_succeeds self.old.turn && ltb 0 self.old.flushes) }
+        ensures flush { HasFlushed ⟦<LimitedSink as Sink>⟧.taken ⟦<LimitedSink as Sink>⟧.flushed
+            ⟦<LimitedSink as Sink>⟧.sink_faults self.old self.new result }
+        ensures counted { OnOk result (self.new.flushes + 1 ≡ self.old.flushes) }
+        ensures refused { IfErr result (λ _. (self.new.flushes ≡ self.old.flushes)
+            × (self.new.faults ≡ min (self.old.faults + 1) (2 ^ 64 - 1))) }
+        ensures kept { (self.new.room ≡ self.old.room) × (self.new.most ≡ self.old.most)
+            × (self.new.taken ≡ self.old.taken) }
+        ensures turn { self.new.turn ≡ after_call self.old.turn }
+    {
         if self.turn.passes() && self.flushes > 0 {
             self.flushes -= 1;
             return Ok(());
@@ -133,7 +168,9 @@ impl BufferedSink {
     }
 
     /// Returns the bytes that were received since the last flush.
-    pub fn waiting(&self) -> &[u8] {
+    pub fn waiting(&self) -> &[u8]
+        ensures { result.now ≡ self.now.waiting.items }
+    {
         self.waiting.as_slice()
     }
 }
@@ -145,7 +182,16 @@ impl Sink for BufferedSink {
 
     ghost sink_faults = { λ s. s.faults };
 
-    fn write(&mut self, bytes: &[u8]) -> Result<usize, DeviceFault> {
+    // On success, all bytes wait for the next flush. Fails only if an allocation fails.
+    fn write(&mut self, bytes: &[u8]) -> Result<usize, DeviceFault>
+        ensures takes { IfOk result (λ n. n ≡ length bytes.now) }
+        ensures write { HasWritten ⟦<BufferedSink as Sink>⟧.taken ⟦<BufferedSink as Sink>⟧.flushed
+            ⟦<BufferedSink as Sink>⟧.sink_faults self.old self.new bytes.now result }
+        ensures waiting { OnOk result (self.new.waiting.items ≡ self.old.waiting.items ++ bytes.now) }
+        ensures refused { IfErr result (λ _. (self.new.waiting.items ≡ self.old.waiting.items)
+            × (self.new.faults ≡ min (self.old.faults + 1) (2 ^ 64 - 1))) }
+        ensures kept { self.new.flushed_bytes.items ≡ self.old.flushed_bytes.items }
+    {
         match self.waiting.extend_from_slice(bytes) {
             Ok(()) => Ok(bytes.len()),
             Err(_) => {
@@ -155,7 +201,17 @@ impl Sink for BufferedSink {
         }
     }
 
-    fn flush(&mut self) -> Result<(), DeviceFault> {
+    // On success, no bytes wait any more. Fails only if an allocation fails.
+    fn flush(&mut self) -> Result<(), DeviceFault>
+        ensures flush { HasFlushed ⟦<BufferedSink as Sink>⟧.taken ⟦<BufferedSink as Sink>⟧.flushed
+            ⟦<BufferedSink as Sink>⟧.sink_faults self.old self.new result }
+        ensures waiting { OnOk result (self.new.waiting.items ≡ []) }
+        ensures flushed { OnOk result
+            (self.new.flushed_bytes.items ≡ self.old.flushed_bytes.items ++ self.old.waiting.items) }
+        ensures refused { IfErr result (λ _. (self.new.waiting.items ≡ self.old.waiting.items)
+            × (self.new.flushed_bytes.items ≡ self.old.flushed_bytes.items)
+            × (self.new.faults ≡ min (self.old.faults + 1) (2 ^ 64 - 1))) }
+    {
         match self.flushed_bytes.extend_from_slice(&self.waiting) {
             Ok(()) => {
                 self.waiting.clear();
@@ -181,12 +237,22 @@ impl Sink for Counting {
 
     ghost sink_faults = { λ _. 0 };
 
-    fn write(&mut self, bytes: &[u8]) -> Result<usize, DeviceFault> {
+    // Always succeeds, and accepts all bytes.
+    fn write(&mut self, bytes: &[u8]) -> Result<usize, DeviceFault>
+        ensures takes { IsOkAnd result (λ n. n ≡ length bytes.now) }
+        ensures write { HasWritten ⟦<Counting as Sink>⟧.taken ⟦<Counting as Sink>⟧.flushed
+            ⟦<Counting as Sink>⟧.sink_faults self.old self.new bytes.now result }
+        ensures counted { self.new.bytes ≡ min (self.old.bytes + length bytes.now) (2 ^ 64 - 1) }
+    {
         self.bytes = self.bytes.saturating_add(bytes.len());
         Ok(bytes.len())
     }
 
-    fn flush(&mut self) -> Result<(), DeviceFault> {
+    // Always succeeds.
+    fn flush(&mut self) -> Result<(), DeviceFault>
+        ensures succeeds { IsOk result }
+        ensures unchanged { self.new ≡ self.old }
+    {
         Ok(())
     }
 }

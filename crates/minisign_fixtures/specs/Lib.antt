@@ -1,0 +1,2 @@
+-- The definitions that the contracts of minisign_fixtures use.
+pub mod Turns
