@@ -1,7 +1,9 @@
 //! The devices that a request describes. The source counts its reads, and the random source its bytes.
 
-ghost use Rattle.std.specs.Prelude.{◌≡◌, ◌≤◌, ◌+◌, ◌-◌, ◌^◌, Some, IfErr, IfOk, IsOk, OnOk, is_ok, length, min};
-ghost use Rattle.std.specs.Prelude.{MatchOption, drop, option_map};
+ghost use Rattle.std.specs.Prelude.{◌≡◌, ◌↔◌, ◌≤◌, ◌==◌, ◌+◌, ◌-◌, ◌^◌, ◌&&◌, ◌||◌, not, Some, IfErr, IfOk};
+ghost use Rattle.std.specs.Prelude.{IsOk, IsSomeAnd, MatchOption, OnErr, OnOk, codes, drop, if◌then◌else◌};
+ghost use Rattle.std.specs.Prelude.{is_ok, length, ltb, min, option_map};
+ghost use Rattle.std.specs.Str.{bytes_eq};
 ghost use Rattle.std.specs.Option.{is_some, unwrap_or};
 ghost use Rattle.minisign_base.specs.Devices.{HasFilled, HasGoneBack, HasMarked, HasRead};
 
@@ -63,8 +65,19 @@ impl DataWord {
         self.set(name, number_of(value)?)
     }
 
-    // Sets a part whose value is a number. A maximum of 0 bytes for each read is rejected.
-    fn set(&mut self, name: &str, number: usize) -> Result<(), Refusal> {
+    // Sets the part with this name, whose value is a number. Rejects other names, and a maximum of 0 bytes
+    // for each read.
+    fn set(&mut self, name: &str, number: usize) -> Result<(), Refusal>
+        ensures succeeds { is_ok result ≡ (bytes_eq name.now (codes "pos")
+            || (bytes_eq name.now (codes "fail") || (bytes_eq name.now (codes "chunk") && ltb 0 number))) }
+        ensures place { self.new.place
+            ≡ (if bytes_eq name.now (codes "pos") then number else self.old.place) }
+        ensures chunk { self.new.chunk
+            ≡ (if bytes_eq name.now (codes "chunk") && ltb 0 number then number else self.old.chunk) }
+        ensures failing_read { self.new.failing_read
+            ≡ (if bytes_eq name.now (codes "fail") then number else self.old.failing_read) }
+        ensures kept { (self.new.bytes ≡ self.old.bytes) × (self.new.second ≡ self.old.second) }
+    {
         match name {
             "pos" => self.place = number,
             "chunk" if number > 0 => self.chunk = number,
@@ -131,12 +144,17 @@ impl<'a> Source for CountedSource<'a> {
 
     ghost faults = { λ s. s.faults };
 
-    // The read is counted, also if it fails. On success, the position is after the bytes that were read.
+    // Fails exactly if it is the read that has to fail. It is counted even if it fails. On success, the
+    // number of bytes is the greatest that is allowed, and the position is after them.
     fn read(&mut self, buf: &mut [u8]) -> Result<usize, DeviceFault>
+        ensures succeeds { is_ok result
+            ≡ not (min (self.old.reads + 1) (2 ^ 64 - 1) == self.old.failing_read) }
+        ensures number { IfOk result
+            (λ n. n ≡ min (min (length self.old.rest.now) (length buf.new)) self.old.chunk) }
         ensures read { HasRead ⟦<CountedSource<'a> as Source>⟧.ahead ⟦<CountedSource<'a> as Source>⟧.behind
             ⟦<CountedSource<'a> as Source>⟧.since ⟦<CountedSource<'a> as Source>⟧.is_marked
-            ⟦<CountedSource<'a> as Source>⟧.left ⟦<CountedSource<'a> as Source>⟧.faults
-            self.old self.new buf.new result }
+            ⟦<CountedSource<'a> as Source>⟧.left ⟦<CountedSource<'a> as Source>⟧.faults self.old self.new
+            buf.new result }
         ensures counted { self.new.reads ≡ min (self.old.reads + 1) (2 ^ 64 - 1) }
         ensures after_success { IfOk result (λ n. (self.new.rest.now ≡ drop n self.old.rest.now)
             × (self.new.place ≡ min (self.old.place + n) (2 ^ 64 - 1))
@@ -167,10 +185,10 @@ impl<'a> Rereader for CountedSource<'a> {
     // Always succeeds. Everything but the mark is unchanged.
     fn mark(&mut self) -> Result<(), DeviceFault>
         ensures succeeds { IsOk result }
-        ensures mark { HasMarked ⟦<CountedSource<'a> as Rereader>⟧.steady ⟦<CountedSource<'a> as Source>⟧.ahead
-            ⟦<CountedSource<'a> as Source>⟧.behind ⟦<CountedSource<'a> as Source>⟧.since
-            ⟦<CountedSource<'a> as Source>⟧.is_marked ⟦<CountedSource<'a> as Source>⟧.faults
-            self.old self.new result }
+        ensures mark { HasMarked ⟦<CountedSource<'a> as Rereader>⟧.steady
+            ⟦<CountedSource<'a> as Source>⟧.ahead ⟦<CountedSource<'a> as Source>⟧.behind
+            ⟦<CountedSource<'a> as Source>⟧.since ⟦<CountedSource<'a> as Source>⟧.is_marked
+            ⟦<CountedSource<'a> as Source>⟧.faults self.old self.new result }
         ensures marked { MatchOption self.new.marked ⊥
             (λ m. (m.0.now ≡ self.old.rest.now) × (m.1 ≡ self.old.place)) }
         ensures kept { (self.new.rest.now ≡ self.old.rest.now) × (self.new.second ≡ self.old.second)
@@ -187,8 +205,8 @@ impl<'a> Rereader for CountedSource<'a> {
         ensures succeeds { is_ok result ≡ is_some self.old.marked }
         ensures back { HasGoneBack ⟦<CountedSource<'a> as Source>⟧.ahead
             ⟦<CountedSource<'a> as Source>⟧.behind ⟦<CountedSource<'a> as Source>⟧.since
-            ⟦<CountedSource<'a> as Source>⟧.is_marked ⟦<CountedSource<'a> as Source>⟧.faults
-            self.old self.new result }
+            ⟦<CountedSource<'a> as Source>⟧.is_marked ⟦<CountedSource<'a> as Source>⟧.faults self.old
+            self.new result }
         ensures place { OnOk result (option_map (λ p. p.1) self.old.marked ≡ Some self.new.place) }
         // On success, the unread bytes are those after the marked position, of other data if there is any.
         ensures rest { OnOk result (MatchOption self.old.marked ⊥ (λ m. self.new.rest.now
@@ -284,8 +302,13 @@ impl<'a> RandomSource for CountedRandom<'a> {
 
     ghost random_faults = { λ s. ⟦<FixedRandom<'a> as RandomSource>⟧.random_faults s.random };
 
-    // The bytes are counted on success.
+    // Fails exactly if fewer bytes are left than `buf` has, and then the bytes that are left are unchanged.
+    // On success, the bytes are counted.
     fn fill(&mut self, buf: &mut [u8]) -> Result<(), DeviceFault>
+        ensures succeeds { IsOk result ↔ IsSomeAnd (⟦<FixedRandom<'a> as RandomSource>⟧.random_ahead
+            self.old.random) (λ xs. length buf.old ≤ length xs) }
+        ensures unchanged { OnErr result (⟦<FixedRandom<'a> as RandomSource>⟧.random_ahead self.new.random
+            ≡ ⟦<FixedRandom<'a> as RandomSource>⟧.random_ahead self.old.random) }
         ensures fill { HasFilled ⟦<CountedRandom<'a> as RandomSource>⟧.random_ahead
             ⟦<CountedRandom<'a> as RandomSource>⟧.random_faults self.old self.new buf.new result }
         ensures counted { OnOk result (self.new.drawn ≡ min (self.old.drawn + length buf.old) (2 ^ 64 - 1)) }

@@ -1,9 +1,12 @@
 //! The answer to a request: the result of the call, the bytes that it wrote, and the numbers of reads and of
 //! random bytes.
 
-ghost use Rattle.std.specs.Prelude.{◌≡◌, [], ◌++◌, false, true, OnOk, codes, decimal, if◌then◌else◌, string_bytes};
-ghost use Rattle.hex.specs.Hex.{encode_lower};
-ghost use Rattle.minisign_compare.specs.Fields.{begun};
+ghost use Rattle.std.specs.Prelude.{◌≡◌, [], ◌++◌, Err, IfErr, IfOk, MatchOption, None, OnOk, Some};
+ghost use Rattle.std.specs.Prelude.{codes, false, if◌then◌else◌, string_bytes, true};
+ghost use Rattle.minisign_base.specs.Fault.{Named};
+ghost use Rattle.minisign_base.specs.declared.faults.NamedFault.TheVariants.{OutOfMemory};
+ghost use Rattle.minisign_compare.specs.Fields.{begun, first_of, is_incomplete, with_bytes, with_number};
+ghost use Rattle.minisign_compare.specs.declared.refusals.Refusal.TheVariants.{Fault};
 
 use crate::refusals::Refusal;
 use crate::words::times_in;
@@ -45,8 +48,8 @@ impl Fields {
 
     /// Adds a field of bytes: `x` and two lowercase hexadecimal digits for each byte.
     pub fn bytes(&mut self, name: &str, bytes: &[u8])
-        ensures text { self.new.is_short ≡ false → string_bytes self.new.text
-            ≡ begun (string_bytes self.old.text) name.now ++ codes "x" ++ encode_lower bytes.now }
+        ensures text { self.new.is_short ≡ false
+            → string_bytes self.new.text ≡ with_bytes (string_bytes self.old.text) name.now bytes.now }
         ensures stays_short { self.old.is_short ≡ true → self.new.is_short ≡ true }
     {
         match hex::encode(self.alloc, bytes) {
@@ -57,8 +60,8 @@ impl Fields {
 
     /// Adds a field of a decimal number.
     pub fn number(&mut self, name: &str, number: u64)
-        ensures text { self.new.is_short ≡ false → string_bytes self.new.text
-            ≡ begun (string_bytes self.old.text) name.now ++ decimal number }
+        ensures text { self.new.is_short ≡ false
+            → string_bytes self.new.text ≡ with_number (string_bytes self.old.text) name.now number }
         ensures stays_short { self.old.is_short ≡ true → self.new.is_short ≡ true }
     {
         match format!(in self.alloc; "{number}") {
@@ -138,7 +141,18 @@ impl Reply {
     }
 
     /// Adds a field of the bytes that a call returned.
-    pub fn returned_bytes(&mut self, name: &str, returned: minisign::Result<Vec<u8>>) {
+    pub fn returned_bytes(&mut self, name: &str, returned: minisign::Result<Vec<u8>>)
+        // On success, the field is added. After an error, the error is stored if it is the first one.
+        ensures added { IfOk returned (λ value. (self.new.fault ≡ self.old.fault)
+            × (self.new.fields.is_short ≡ false → string_bytes self.new.fields.text
+            ≡ with_bytes (string_bytes self.old.fields.text) name.now value.items)) }
+        ensures stays_short { self.old.fields.is_short ≡ true → self.new.fields.is_short ≡ true }
+        ensures refused { IfErr returned (λ e. (self.new.fields ≡ self.old.fields)
+            × (self.new.fault ≡ first_of self.old.fault e)) }
+        ensures kept { (self.new.tail ≡ self.old.tail) × (self.new.deeds ≡ self.old.deeds)
+            × (self.new.stdout ≡ self.old.stdout) × (self.new.stderr ≡ self.old.stderr)
+            × (self.new.typed_left ≡ self.old.typed_left) }
+    {
         match returned {
             Ok(bytes) => self.fields.bytes(name, &bytes),
             Err(fault) => self.keep(fault),
@@ -146,7 +160,18 @@ impl Reply {
     }
 
     /// Adds a field of the text that a call returned.
-    pub fn returned_text(&mut self, name: &str, returned: minisign::Result<String>) {
+    pub fn returned_text(&mut self, name: &str, returned: minisign::Result<String>)
+        // On success, the field is added. After an error, the error is stored if it is the first one.
+        ensures added { IfOk returned (λ value. (self.new.fault ≡ self.old.fault)
+            × (self.new.fields.is_short ≡ false → string_bytes self.new.fields.text
+            ≡ with_bytes (string_bytes self.old.fields.text) name.now (string_bytes value))) }
+        ensures stays_short { self.old.fields.is_short ≡ true → self.new.fields.is_short ≡ true }
+        ensures refused { IfErr returned (λ e. (self.new.fields ≡ self.old.fields)
+            × (self.new.fault ≡ first_of self.old.fault e)) }
+        ensures kept { (self.new.tail ≡ self.old.tail) × (self.new.deeds ≡ self.old.deeds)
+            × (self.new.stdout ≡ self.old.stdout) × (self.new.stderr ≡ self.old.stderr)
+            × (self.new.typed_left ≡ self.old.typed_left) }
+    {
         match returned {
             Ok(text) => self.fields.bytes(name, text.as_bytes()),
             Err(fault) => self.keep(fault),
@@ -154,7 +179,12 @@ impl Reply {
     }
 
     /// Stores the error that a call returned, if it is the first one.
-    pub fn keep(&mut self, fault: PError) {
+    pub fn keep(&mut self, fault: PError)
+        ensures first { self.new.fault ≡ first_of self.old.fault fault }
+        ensures kept { (self.new.fields ≡ self.old.fields) × (self.new.tail ≡ self.old.tail)
+            × (self.new.deeds ≡ self.old.deeds) × (self.new.stdout ≡ self.old.stdout)
+            × (self.new.stderr ≡ self.old.stderr) × (self.new.typed_left ≡ self.old.typed_left) }
+    {
         if self.fault.is_none() {
             self.fault = Some(fault);
         }
@@ -172,7 +202,20 @@ impl Reply {
 
     /// Adds the fields with the bytes that were written. Returns `OutOfMemory` if a field is incomplete, else
     /// the stored error if there is one, else `answer`.
-    pub fn end(&mut self, answer: Result<(), Refusal>) -> Result<(), Refusal> {
+    pub fn end(&mut self, answer: Result<(), Refusal>) -> Result<(), Refusal>
+        ensures incomplete { is_incomplete self.new ≡ true
+            → (result ≡ Err (Fault (Named OutOfMemory))) × (self.new.fault ≡ self.old.fault) }
+        ensures complete { is_incomplete self.new ≡ false → (self.new.fault ≡ None)
+            × MatchOption self.old.fault (result ≡ answer) (λ fault. result ≡ Err (Fault fault)) }
+        ensures deeds { self.new.deeds.is_short ≡ false → string_bytes self.new.deeds.text
+            ≡ with_number (with_bytes (with_bytes (string_bytes self.old.deeds.text)
+            (codes "stdout") self.old.stdout.items) (codes "stderr") self.old.stderr.items)
+            (codes "typed_left") self.old.typed_left }
+        ensures stays_short { self.old.deeds.is_short ≡ true → self.new.deeds.is_short ≡ true }
+        ensures kept { (self.new.fields ≡ self.old.fields) × (self.new.tail ≡ self.old.tail)
+            × (self.new.stdout ≡ self.old.stdout) × (self.new.stderr ≡ self.old.stderr)
+            × (self.new.typed_left ≡ self.old.typed_left) }
+    {
         self.deeds.bytes("stdout", &self.stdout);
         self.deeds.bytes("stderr", &self.stderr);
         self.deeds.number("typed_left", self.typed_left);

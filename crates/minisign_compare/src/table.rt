@@ -1,5 +1,7 @@
 //! The triples that the toy scheme accepts in addition to its own signatures.
 
+ghost use Rattle.std.specs.Prelude.{◌≡◌, [], ◌∷◌, ◌++◌, IfErr, OnOk};
+
 use crate::refusals::Refusal;
 use crate::words::{bytes_of, word};
 use minisign::base::toy::Triple;
@@ -28,12 +30,18 @@ impl Table {
     }
 
     /// Answers `table_clear`: removes all triples.
-    pub fn clear(&mut self) {
+    pub fn clear(&mut self)
+        ensures { self.new.listed.items ≡ [] }
+    {
         self.listed.clear();
     }
 
     /// Answers `table_add`: adds a triple.
-    pub fn add(&mut self, alloc: Global, line: &str) -> Result<(), Refusal> {
+    pub fn add(&mut self, alloc: Global, line: &str) -> Result<(), Refusal>
+        ensures added { OnOk result ((triple : Listed)
+            × (self.new.listed.items ≡ self.old.listed.items ++ (triple ∷ []))) }
+        ensures unchanged { IfErr result (λ _. self.new.listed.items ≡ self.old.listed.items) }
+    {
         let public_key = array_of::<32>(alloc, word(line, 2))?;
         let signature = array_of::<64>(alloc, word(line, 3))?;
         let message = bytes_of(alloc, word(line, 1))?;
