@@ -8,7 +8,8 @@
 //!
 //! OPTIONS is a string of these letters:
 //!
-//! - `F`: `--first`, `A`: `--again`, `C`: `--check`, `X`: `--must-expire`, `K`: `--new-key`, `B`: `--roll-back`
+//! - `F`: `--first`, `A`: `--again`, `C`: `--check`
+//! - `X`: `--must-expire`, `K`: `--new-key`, `B`: `--roll-back`
 //! - `T`: the version number is in the field `timestamp:`, otherwise it is in `version:`
 //! - `1`: the same key is passed twice
 //! - `2`: the second key has the key ID of the signature
@@ -16,13 +17,14 @@
 //! - `l`: the signature is a legacy one
 //! - `s`: the comment signature has 63 bytes and not 64
 //! - `-`: the time is before 1970, otherwise it is 100
-//! - `L`: the signature is that of a list; `5`: 128 digits in a list are SHA-512, otherwise they are malformed
+//! - `L`: the signature is that of a list
+//! - `5`: 128 digits in a list are SHA-512, otherwise they are malformed
 //!
 //! RECORD is `own`, a record of version 2 that names the first key; `other`, one that names a key that is not
 //! passed; `old`, version 2 in the format of minisign-install 0.2; or else the record itself.
 //!
-//! COMMENT is the trusted comment. CALLS are the names that the functions `call` and `list` list, separated by
-//! spaces. The installed file and the data consist of pieces of the bytes `piece`.
+//! COMMENT is the trusted comment. CALLS are the names that the functions `call` and `list` list, separated
+//! by spaces. The installed file and the data consist of pieces of the bytes `piece`.
 
 #![tactic(auto)]
 
