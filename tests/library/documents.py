@@ -3,8 +3,9 @@
 
     tests/library/documents.py
 
-  * The functions and clauses that documents name, the calls that a CALLING.md quotes, and the error messages in
-    docs/FORMATS.md must be in the sources. Links and paths in documents must lead to existing files.
+  * The functions, constants and clauses that documents name, the calls that a CALLING.md quotes, and the error messages
+    in docs/FORMATS.md must be in the sources. Links and paths in documents must lead to existing files.
+  * If a line of CONTRIBUTING.md names files, each constant in this line must be in one of them.
   * The names and paths in the comments of all code, makefiles and manual pages must exist.
   * The old text of each must-fail edit must occur exactly once in its file.
   * No file may name a directory of a particular machine, and no crate may use the proofs of another one.
@@ -30,6 +31,7 @@ from sources import NAME, ROOT, read
 from wrong_bodies import WrongBody
 
 FORMATS = "docs/FORMATS.md"
+CONTRIBUTING = "CONTRIBUTING.md"
 ARCHITECTURE = "docs/ARCHITECTURE.md"
 # A document that is generated from the sources. The script that generates it also checks it.
 GENERATED = "docs/TRUSTED.md"
@@ -65,9 +67,10 @@ NAMES = r"((?:`[\w:]+`(?:, | and )?)+)"
 # A fenced block: its language and its content.
 BLOCK = re.compile(r"^```(\w*)\n(.*?)^```$", re.M | re.S)
 PATH_NAME = re.compile(r"[A-Za-z_]\w*(?:::(?:[A-Za-z_]\w*|\.\.))*$")
-# Quoted texts that have the form of a name but need not be one: short words, constants of any language, and
-# `module::..`.
-NO_NAME = re.compile(r"[a-zA-Z]{1,8}|[A-Z][A-Z0-9]*|.*::\.\.")
+# Constants, macros, variables of makefiles and the like.
+CONSTANT = re.compile(r"[A-Z][A-Z0-9_]*")
+# Quoted texts that have the form of a name but need not be one: short words other than constants, and `module::..`.
+NO_NAME = re.compile(r"(?![A-Z]+$)[a-zA-Z]{1,8}|.*::\.\.")
 TEXT = re.compile(r'"((?:[^"\\]|\\.)*)"')
 
 
@@ -95,7 +98,9 @@ MACHINE_PATH = re.compile(r"(?<![\w.])/(?:opt|work|root|home|Users)/\S*")
 # Words that have the form of a name but come from outside the repository.
 OTHER_NAMES = {"OpenPGP", "WebAssembly", "TypeScript", "macOS", "KiB", "MiB", "GiB", "EdDSAs", "BlockMix", "scryptBlockMix",
                "scryptROMix", "VerifyError", "crypto_pwhash_scryptsalsa208sha256", "AddressSanitizer", "UndefinedBehaviorSanitizer",
-               "DevTools", "WebDriver"}
+               "DevTools", "WebDriver",
+               # The name of a list of checksums, and the scrypt mark of a secret key file with one letter changed.
+               "B2SUMS", "SC"}
 
 FILES = [os.path.relpath(file, ROOT) for file in sources.files_below(ROOT)]
 # All files and directories of the repository, including those that a build creates next to the sources.
@@ -249,6 +254,17 @@ def check_paths(report, document, text):
                 report.check(name.rpartition("::")[2] in defined, location, f"{path} has no {name}")
 
 
+def check_constants(report, document, text):
+    """Checks that each quoted constant is in one of the files that its line names, if the line names any."""
+    for location, line in numbered_lines(document, without_blocks(text)):
+        quoted = QUOTED.findall(line)
+        files = [file for path in filter(is_path, quoted) for file in paths_ending_with(path)
+                 if file.endswith(COMMENTED) and os.path.isfile(os.path.join(ROOT, file))]
+        names = {name for file in files for name in NAME.findall(read(file))}
+        for constant in filter(CONSTANT.fullmatch, quoted if files else ()):
+            report.check(constant in names, location, f"{constant} is not in {' or '.join(files)}")
+
+
 def names_of(path):
     """Returns the names that a file defines."""
     file = os.path.join(ROOT, path)
@@ -386,6 +402,7 @@ def check_version(report, documents):
 def main():
     report, index = Checks(), Index()
     documents = {path: read(path) for path in FILES if path.endswith(".md")}
+    check_constants(report, CONTRIBUTING, documents[CONTRIBUTING])
     for document, text in documents.items():
         check_links(report, document, text)
         if document != GENERATED:
