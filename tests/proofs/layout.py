@@ -1,9 +1,10 @@
 #!/usr/bin/env python3
-"""Checks that contracts, definitions and proofs follow the rules for their layout.
+"""Checks that the code, definitions and proofs of all crates in crates.txt follow the rules for their layout.
 
     tests/proofs/layout.py
 
-  * Lines have at most 110 columns, not counting string literals. Attributes may be longer.
+  * Lines have at most 110 columns, not counting string literals. Attributes may be longer. WIDE_FILES lists the
+    exceptions and their reasons.
   * In specs/, only Lib.antt may consist of re-exports. Other files import names where they use them.
   * Files have the layout of `rt fmt` (in the kit also called `rattle fmt`). This is checked only if the kit is installed.
     `rt fmt` keeps the line breaks in clauses and comments, so that no line has to be longer than 110 columns.
@@ -25,6 +26,7 @@ from itertools import product
 HERE = os.path.dirname(os.path.realpath(__file__))
 sys.path += [os.path.join(HERE, "..", "shared"), os.path.join(HERE, "..", "..", "tools")]
 
+import proved
 import sources
 from checks import Checks
 
@@ -32,8 +34,14 @@ MAX_COLUMNS = 110
 # The maximum lines and characters of a clause, and the maximum lines of a function.
 CLAUSE_LINES, CLAUSE_CHARACTERS, FUNCTION_LINES = 3, 300, 50
 PARTS = ("src", "specs", "proofs")
-CRATES = ("minisign_hash", "minisign_kdf", "minisign_base", "minisign", "minisign_lists", "minisign_external", "minisign_install",
-          "minisign_c", "minisign_page", "minisign_tool", "minisign_examples", "minisign_vectors")
+# The files that may have wider lines, and the reason.
+PRELUDE_IMPORT = "one import names everything that the file uses of the kit's module Prelude"
+WIDE_FILES = {
+    "crates/minisign_sha2/proofs/Facts.antt": "each `unfolding` lists all definitions of a hash function in one line",
+    "crates/minisign_compare/src/devices.rt": PRELUDE_IMPORT + ", and one clause names all ghost members of a trait",
+    "crates/minisign_compare/src/replies.rt": PRELUDE_IMPORT,
+    "crates/installer_runs/src/main.rt": "the comment at the top describes each letter of an option in one line",
+}
 # The clauses that may be longer, by crate, function and name, and the reason.
 DEVICES = "it names each reader, writer and random source of the call, in its state before and after the call"
 LAW = "it is one law, which must quantify over the key, the signature, the buffers and the results that it relates"
@@ -78,7 +86,7 @@ def check_format(checks):
     if sources.find_kit() is None:
         print("skipped: the layout of `rt fmt`, because the Rattle kit is not installed")
         return
-    for crate in CRATES:
+    for crate in proved.crates():
         directories = [os.path.join(sources.ROOT, "crates", crate, part) for part in PARTS]
         files = [file for directory in directories for file in sources.files_below(directory, (".rt", ".antt"))]
         process = subprocess.run([os.path.join(os.path.dirname(sources.find_kit()), "bin", "rattle"), "fmt", "--check", *files],
@@ -99,13 +107,13 @@ def warn_of_length(crate, path, item, text):
 
 def main():
     checks = Checks()
-    for crate, part in product(CRATES, PARTS):
+    for crate, part in product(proved.crates(), PARTS):
         for file in sources.files_below(os.path.join(sources.ROOT, "crates", crate, part), (".rt", ".antt")):
             text = sources.read(file)
             lines, path = text.split("\n"), os.path.relpath(file, sources.ROOT)
             wide_lines = [number for number, line in enumerate(lines, 1) if is_wide(line)]
             numbers = ", ".join(map(str, wide_lines))
-            checks.check(not wide_lines, path, f"more than {MAX_COLUMNS} columns in line {numbers}: {WIDE_HINT}")
+            checks.check(not wide_lines or path in WIDE_FILES, path, f"more than {MAX_COLUMNS} columns in line {numbers}: {WIDE_HINT}")
             if part == "specs":
                 only_re_exports = not file.endswith("/Lib.antt") and all(RE_EXPORT.match(line) for line in lines)
                 checks.check(not only_re_exports, path, "the file has only re-exports: import these names where they are used")
