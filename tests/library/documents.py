@@ -349,7 +349,7 @@ def check_architecture(report):
     file of definitions of `minisign`."""
     text = read(ARCHITECTURE)
     names_in_document = {name for quoted in QUOTED.findall(without_blocks(text)) for name in NAME.findall(quoted)}
-    for crate in re.findall(r"(?m)^\w+(?=:)", read("crates.txt")):
+    for crate in re.findall(r"(?m)^\w+(?=[ :])", read("crates.txt")):
         report.check(re.search(rf"\b{crate}\b", text), ARCHITECTURE, f"the crate {crate} is missing")
     for file in (file for file in FILES if re.match(r"crates/(?:minisign|minisign_tool)/src/|crates/minisign/specs/", file)):
         name = os.path.splitext(os.path.basename(file))[0]
