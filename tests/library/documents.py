@@ -100,7 +100,9 @@ OTHER_NAMES = {"OpenPGP", "WebAssembly", "TypeScript", "macOS", "KiB", "MiB", "G
                "scryptROMix", "VerifyError", "crypto_pwhash_scryptsalsa208sha256", "AddressSanitizer", "UndefinedBehaviorSanitizer",
                "DevTools", "WebDriver",
                # The name of a list of checksums, and the scrypt mark of a secret key file with one letter changed.
-               "B2SUMS", "SC"}
+               "B2SUMS", "SC",
+               # The name of an error in version 0.2.
+               "MINISIGN_BAD_FIRST_FLAG"}
 
 FILES = [os.path.relpath(file, ROOT) for file in sources.files_below(ROOT)]
 # All files and directories of the repository, including those that a build creates next to the sources.

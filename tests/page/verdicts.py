@@ -133,7 +133,7 @@ def check_new_signatures(person):
 
 def check_ed25519_vectors(person):
     """The Ed25519 vectors of ed25519_edge_cases.py have the verdicts of libsodium, with the browser's Ed25519. (The
-    error 32, for the comment signature, means that the vector itself is accepted.)"""
+    number 32 is MINISIGN_COMMENT_SIGNATURE_REFUSED, which means that the vector itself is accepted.)"""
     by_key, numbers = {}, Counter()
     for vector in ed25519_edge_cases.vectors():
         by_key.setdefault(vector["A"], []).append(vector)
