@@ -165,11 +165,9 @@ extern "C" {
 uint32_t minisign_version(void);
 
 /* Error numbers. No call returns a number that is not listed here. Later versions may add numbers anywhere, so do not
- * decide by ranges. In this version, each of the numbers 1 to 15, 61 to 63, and 82 to 84 means API misuse, lack of
- * memory, or bytes that are not UTF-8. The others are malformed or rejected keys and signatures, rejected updates, and
- * failures of input and output. "Encrypted" means the same here as "sealed" in the names of calls. In
- * MINISIGN_RECORD_TOO_SHORT, a record is a decoded key or signature; everywhere else it is the version record of
- * minisign_install.h. */
+ * decide by ranges. minisign_error_kind returns the kind of an error, for example MINISIGN_KIND_MISUSE. "Encrypted"
+ * means the same here as "sealed" in the names of calls. In MINISIGN_RECORD_TOO_SHORT, a record is a decoded key or
+ * signature; everywhere else it is the version record of minisign_install.h. */
 /* Numbers, made by tools/header.py. */
 enum minisign_error {
     MINISIGN_OK = 0,
