@@ -1,7 +1,8 @@
 #!/usr/bin/env python3
 """Checks that the functions of the library and the program `c/minisign` leave no secrets in memory.
 
-    tests/c/cleared_secrets.py
+    tests/c/cleared_secrets.py             runs the checks
+    tests/c/cleared_secrets.py mutants     tries only the mutants
 
 The library. cleared_secrets.c creates keys, decrypts them (also with scrypt memory of the caller) and signs with them. After each
 step it searches all registers and all writable memory for secrets: the seed of the key and its first half, the
@@ -14,9 +15,10 @@ The program. `c/minisign` generates, decrypts, changes and signs with keys. It i
 or closes a file, and when it ends. Secrets may be only in the pages that it allocates for them, and nowhere when it
 ends.
 
-To show that the search works, it must find a secret that is left in memory on purpose, and secrets in builds that
-do not clear the stack, the registers or freed memory. The script prints a line for each failure; the last line is
-`N passed, M failed`.
+To show that the search works, it must find a secret that is left in memory on purpose, and secrets in the mutants of
+clearing_mutants and secret_page_mutants: builds that do not clear the stack, the registers or freed memory, or in which
+`c/minisign` keeps secrets elsewhere or does not clear them. The script prints a line for each failure; the last line
+is `N passed, M failed`.
 
 Needs make, binutils, a C compiler, clang, libsodium with its header, and the Debian packages musl-tools,
 gcc-aarch64-linux-gnu, libc6-dev-arm64-cross and qemu-user-static. Missing packages are installed if that is permitted.
@@ -33,6 +35,7 @@ SHARED = os.path.join(HERE, "..", "shared")
 sys.path += [SHARED, os.path.join(HERE, "..", "command_line")]
 
 import emulated
+import mutants
 import needles
 import needs
 import proved
@@ -40,9 +43,8 @@ import static_library
 import test_script
 from c_library import STRICT
 from command_running import put_files
-from mutants import copy_sources
 from process import run, run_program
-from running import build_preload, read, write
+from running import build_preload, expect, read, write
 from texts import Limits, key_stream, record_of, seal_record, text_of
 
 SEED = hashlib.sha256(b"the seed").digest()
@@ -98,20 +100,16 @@ class Run:
 
 
 class Builder:
-    """Builds the library and cleared_secrets.c, from the sources or from a changed copy of them."""
+    """Builds the library and cleared_secrets.c, from the sources or from a copy of them with a mutant."""
 
     def __init__(self, scratch):
         self.scratch = scratch
         write(scratch, "needles.h", needles.header_text(searched_secrets()).encode())
 
-    def copy(self, name, pattern, replacement):
-        """Copies the sources and replaces the matches of `pattern` by `replacement` in the file c/`name`. Returns the
-        path of the copy."""
-        top = copy_sources(self.scratch, "c", "include", "dist", "tools")
-        text, count = re.subn(pattern, replacement, read(top, "c", name).decode())
-        if not count:
-            raise static_library.NotBuilt(f"c/{name} has no match for {pattern!r}")
-        write(top, f"c/{name}", text.encode())
+    def copy(self, mutant):
+        """Copies the sources and applies a mutant to the copy. Returns the path of the copy."""
+        top = mutants.copy_sources(self.scratch, "c", "include", "dist", "tools")
+        mutants.apply(mutant, top)
         return top
 
     def make(self, target, *variables, top=proved.ROOT):
@@ -226,8 +224,7 @@ def misplaced(results):
 
 
 def check_program(checks, builder):
-    """Checks that c/minisign keeps secrets only in the pages for secrets, and clears them before it ends. Also
-    checks that the search notices builds that keep secrets elsewhere or do not clear them."""
+    """Checks that c/minisign keeps secrets only in the pages for secrets, and clears them before it ends."""
     for level in LEVELS:
         searched = SearchedProgram(builder, level)
         for arguments, typed in ENCRYPTING + NOT_ENCRYPTING:
@@ -238,39 +235,41 @@ def check_program(checks, builder):
             needles_in_pages = {needle for (_, needle), counts in results if counts[3]}
             checks.check(events == {"open", "write", "close", "end"}, f"{description}: it was searched only at {events}")
             checks.check("seed" in needles_in_pages, f"{description}: the seed was not found, only {needles_in_pages}")
-    for pattern, replacement in ((r"sodium_malloc\(sizeof \*secrets\)", "malloc(sizeof *secrets)"),
-                                 (r"clean_at_end\(clear_secrets\);", "")):
-        searched = SearchedProgram(builder, "-O0", builder.copy("minisign/keys.c", pattern, replacement))
+
+
+def check_program_mutants(checks, builder):
+    """Checks that the search finds misplaced secrets, whatever the command line, in mutants of c/minisign that keep
+    secrets outside the pages for secrets or do not clear them."""
+    for mutant in mutants.mutants_of("c", "secret_page_mutants"):
+        searched = SearchedProgram(builder, "-O0", builder.copy(mutant))
         misplaced_secrets = [misplaced(searched.search(arguments, typed)[1]) for arguments, typed in NOT_ENCRYPTING]
         checks.check(all(misplaced_secrets),
-                     f"minisign with {replacement!r} in place of {pattern!r}: expected misplaced secrets for each command line, "
-                     f"found {misplaced_secrets}")
+                     f"mutant {mutant.name}: expected misplaced secrets for each command line, found {misplaced_secrets}")
 
 
-# Mutations of the library. For each, the file, a pattern, its replacement, and the place where secrets are then
-# found, as an index of counts.
-REGISTERS, STACK, ELSEWHERE = 0, 1, 2
-PLACES = ("in registers", "on the stack", "elsewhere")
-NOTHING_CLEARED = "nothing is cleared after a call"
-MUTATIONS = {
-    NOTHING_CLEARED: ("library/boundary.c", r"    minisign_clear_used\(\);\n", "", STACK),
-    "too little of the stack is cleared": ("library/clearing.h", r"CLEARED_BYTES 16384", "CLEARED_BYTES 256", STACK),
-    "registers are not cleared": ("library/clearing.c", r'"(?:pxor|vpxorq|vzeroall)[^"]*"', '""', REGISTERS),
-    "freed memory is not cleared": (
-        "library/allocation.c", r"    clear\(block, heading\.len\);\n", "    (void) clear;\n", ELSEWHERE,
-    ),
-}
+# The test cases that the patches in clearing_mutants name. Each says that no secret is left in one of three places, in the
+# order of the counts of a `Run`.
+CASES = ("no secret in registers", "no secret on the stack", "no secret elsewhere")
+# The mutant with which the stack use of the functions is measured, because clearing itself writes CLEARED_BYTES of the
+# stack.
+NOTHING_CLEARED = "nothing_is_cleared_after_calls"
 
 
-def check_mutations(checks, builder):
-    """Checks that secrets are found in builds that do not clear memory. Also prints how much of the stack the
-    functions use, as measured in the build that does not clear it: clearing writes CLEARED_BYTES of the stack."""
-    for description, (*change, index) in MUTATIONS.items():
-        run = Run([builder.program(needs.c_compiler(), "-O2", "C_CALLS=", top=builder.copy(*change))])
+def library_mutants():
+    """Maps the names of the mutants of the library to the mutants."""
+    return {mutant.name: mutant for mutant in mutants.mutants_of("c", "clearing_mutants")}
+
+
+def check_library_mutants(checks, builder):
+    """Checks that a secret is found with each mutant of the library, in the place that its case names. Also prints how
+    much of the stack the functions use."""
+    for name, mutant in library_mutants().items():
+        expect(mutant.case in CASES, f"mutant {name}: there is no case {mutant.case}")
+        run = Run([builder.program(needs.c_compiler(), "-O2", "C_CALLS=", top=builder.copy(mutant))])
         leftovers = run.leftovers()
-        checks.check(not run.wrong and any(counts[index] for counts in leftovers.values()),
-                     f"if {description}, no secret was found {PLACES[index]}: {run.wrong[:5]}, left: {leftovers}")
-        if description == NOTHING_CLEARED:
+        checks.check(not run.wrong and any(counts[CASES.index(mutant.case)] for counts in leftovers.values()),
+                     f"mutant {name}: the case {mutant.case!r} does not notice it: {run.wrong[:5]}, left: {leftovers}")
+        if name == NOTHING_CLEARED:
             # Steps with signals are left out, because the signal handlers use the stack too.
             depths = {step: depth for step, depth in run.depths.items() if "signals" not in step}
             deepest = max(depths, key=depths.get)
@@ -291,9 +290,8 @@ def header_kibibytes():
 
 
 def check_stack_use(checks, builder):
-    """Checks that no build of the proved functions uses more of the stack than the header says. The stack use is
-    measured without clearing, which itself writes CLEARED_BYTES of the stack."""
-    sources, clang = builder.copy(*MUTATIONS[NOTHING_CLEARED][:3]), needs.program("clang", "clang")
+    """Checks that no build of the proved functions uses more of the stack than the header says."""
+    sources, clang = builder.copy(library_mutants()[NOTHING_CLEARED]), needs.program("clang", "clang")
     # If C_CALLS is given, make does not use the cached object file of dist/calls.c, which the change would not affect.
     c_calls = ["PORTABLE=1", f"C_CALLS={sources}/dist/calls.c"]
     for compiler, level, words, limit in (
@@ -312,7 +310,8 @@ def run_all(checks, scratch):
     builder = Builder(scratch)
     check_builds(checks, builder)
     check_program(checks, builder)
-    check_mutations(checks, builder)
+    check_program_mutants(checks, builder)
+    check_library_mutants(checks, builder)
     check_stack_use(checks, builder)
 
 

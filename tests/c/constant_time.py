@@ -2,6 +2,7 @@
 """Checks that no branch and no memory address in the library depends on a secret, except in the listed functions.
 
     tests/c/constant_time.py            runs the checks
+    tests/c/constant_time.py mutants    tries only the mutants
     tests/c/constant_time.py --list     also prints the number of places found in each function, for updating the list
 
 constant_time.c calls functions of the library with their secret bytes marked as undefined, and valgrind (memcheck)
@@ -14,8 +15,8 @@ this processor supports, and with dist/calls.c, compiled by gcc and by clang.
   * The checksum of a key must be compared as a whole: with a wrong first byte, the same branches must be taken as with a
     wrong last byte.
   * No byte of a public key or a signature may depend on a secret as far as valgrind can tell.
-  * To show that these checks work, copies of the sources get a branch or a lookup that depends on a secret, and the checks
-    must find it.
+  * To show that these checks work, the mutants in timing_mutants have a branch or a lookup that depends on a secret, and
+    the checks must find it.
 
 The script does not check that an instruction takes the same time for all operands, because valgrind does not
 measure time. It checks nothing about processors other than x86-64, other compilers, or other inputs. Ed25519 is not
@@ -38,6 +39,7 @@ HERE = os.path.dirname(os.path.realpath(__file__))
 sys.path.append(os.path.join(HERE, "..", "shared"))
 
 import cleared_secrets
+import mutants
 import needs
 import static_library
 import test_script
@@ -251,32 +253,18 @@ def check_checksum_is_compared_whole(checks, copy, outcomes):
                      f"{(outcomes[first].times - outcomes[last].times) + (outcomes[last].times - outcomes[first].times)}")
 
 
-# A branch that depends on a value. A compiler cannot turn it into a conditional move, because it is around assembly.
-BRANCH = '    if ((%s) & 1) {\n        __asm__ __volatile__("");\n    }\n'
-# Mutations that depend on a secret: the file in c/, a pattern, the code that is inserted after it, the build, and
-# the call that must find it.
-PLANTED = {
-    "a branch in the boundary": ("library/boundary.c", r"(?m)^(uint32_t|enum minisign_error) minisign_public_key_of\(.*\)\n\{\n",
-                                 BRANCH % "key->secret[0]", V3, "make_public_key"),
-    "a branch in Blake2b": ("library/portable/machine.h", r"(?m)^static inline u64 rotl64\(.*\n\{\n",
-                            BRANCH % "value >> 9", C_BY_GCC, "open_unsealed"),
-    "a branch in Salsa20": ("library/portable/machine.h", r"(?m)^static inline u32 rotl32\(.*\n\{\n",
-                            BRANCH % "value >> 3", C_BY_GCC, "open_sealed"),
-    "a lookup in minisign_take_secret_key": (
-        "library/portable/pointers.c", r"(?m)^void portable_minisign_take_secret_key\([^{]*\{\n",
-        "    static volatile uint8_t table[256];\n    key->key_id[0] ^= table[new_key->secret[1]];\n", C_BY_GCC, "take"),
-}
+def check_mutants(checks, builder, pool, listed):
+    """Checks that each mutant is found by the call of constant_time.c that it names. A mutant of c/library/portable is
+    tried with dist/calls.c, which is compiled with these files, and all others with an archive.
 
-
-def check_planted_dependences(checks, builder, pool, listed):
-    """Checks that each mutation of PLANTED is found."""
-    for description, (file, pattern, text, copy, name) in PLANTED.items():
-        top = builder.copy(file, pattern, lambda match, text=text: match[0] + text)
+    A mutant has its branch around assembly, so that a compiler cannot turn it into a conditional move."""
+    for mutant in mutants.mutants_of("c", "timing_mutants"):
+        top, copy = builder.copy(mutant), C_BY_GCC if mutant.file.startswith("c/library/portable/") else V3
         # With C_CALLS, make compiles dist/calls.c again, instead of using the cached object file.
-        planted = copy._replace(variables=(*copy.variables, f"C_CALLS={top}/dist/calls.c")) if copy.is_c else copy
-        outcome = outcomes_over(builder, planted, pool, top, [name])[name]
+        changed = copy._replace(variables=(*copy.variables, f"C_CALLS={top}/dist/calls.c")) if copy.is_c else copy
+        outcome = outcomes_over(builder, changed, pool, top, [mutant.case])[mutant.case]
         checks.check(not outcome.failure and places_over_limit(outcome.places, copy.is_c, listed),
-                     f"{description} is not found by {name}: {outcome.failure} {outcome.places}")
+                     f"mutant {mutant.name}: the call {mutant.case} does not find it: {outcome.failure} {outcome.places}")
 
 
 def print_list(outcomes_by_copy):
@@ -304,17 +292,22 @@ def check_list(checks, outcomes_by_copy, listed):
     checks.check(not superfluous, f"no place depends on a secret in {superfluous}, which the list names")
 
 
+def check_builds(checks, builder, pool, listed):
+    """Checks the builds that this processor can run, and the list."""
+    outcomes_by_copy = {copy: outcomes_over(builder, copy, pool) for copy in copies_here()}
+    if "--list" in sys.argv[1:]:
+        print_list(outcomes_by_copy)
+    for copy, outcomes in outcomes_by_copy.items():
+        check_calls(checks, copy, outcomes, listed)
+        check_checksum_is_compared_whole(checks, copy, outcomes)
+    check_list(checks, outcomes_by_copy, listed)
+
+
 def run_all(checks, scratch):
     builder, listed = Builder(scratch), read_list()
     with concurrent.futures.ThreadPoolExecutor(os.cpu_count() or 1) as pool:
-        outcomes_by_copy = {copy: outcomes_over(builder, copy, pool) for copy in copies_here()}
-        if "--list" in sys.argv[1:]:
-            print_list(outcomes_by_copy)
-        for copy, outcomes in outcomes_by_copy.items():
-            check_calls(checks, copy, outcomes, listed)
-            check_checksum_is_compared_whole(checks, copy, outcomes)
-        check_list(checks, outcomes_by_copy, listed)
-        check_planted_dependences(checks, builder, pool, listed)
+        check_builds(checks, builder, pool, listed)
+        check_mutants(checks, builder, pool, listed)
 
 
 if __name__ == "__main__":
