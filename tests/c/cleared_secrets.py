@@ -20,7 +20,7 @@ clearing_mutants and secret_page_mutants: builds that do not clear the stack, th
 `c/minisign` keeps secrets elsewhere or does not clear them. The script prints a line for each failure; the last line
 is `N passed, M failed`.
 
-Needs make, binutils, a C compiler, clang, libsodium with its header, and the Debian packages musl-tools,
+Needs git, make, binutils, a C compiler, clang, libsodium with its header, and the Debian packages musl-tools,
 gcc-aarch64-linux-gnu, libc6-dev-arm64-cross and qemu-user-static. Missing packages are installed if that is permitted.
 """
 

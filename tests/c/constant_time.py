@@ -22,7 +22,7 @@ The script does not check that an instruction takes the same time for all operan
 measure time. It checks nothing about processors other than x86-64, other compilers, or other inputs. Ed25519 is not
 part of the library.
 
-It prints a line for each failure; the last line is `N passed, M failed`. Needs valgrind with its header, make,
+It prints a line for each failure; the last line is `N passed, M failed`. Needs valgrind with its header, git, make,
 binutils, gcc and clang; missing packages are installed if that is permitted.
 """
 
@@ -257,7 +257,7 @@ def check_mutants(checks, builder, pool, listed):
     """Checks that each mutant is found by the call of constant_time.c that it names. A mutant of c/library/portable is
     tried with dist/calls.c, which is compiled with these files, and all others with an archive.
 
-    A mutant has its branch around assembly, so that a compiler cannot turn it into a conditional move."""
+    The branches in the mutants are around assembly, so that a compiler cannot turn them into conditional moves."""
     for mutant in mutants.mutants_of("c", "timing_mutants"):
         top, copy = builder.copy(mutant), C_BY_GCC if mutant.file.startswith("c/library/portable/") else V3
         # With C_CALLS, make compiles dist/calls.c again, instead of using the cached object file.
