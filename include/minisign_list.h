@@ -172,7 +172,7 @@ MINISIGN_MUST_USE enum minisign_error minisign_list_find(
  */
 MINISIGN_MUST_USE enum minisign_error minisign_list_entries(
     const minisign_list *list, const uint8_t *text, size_t text_len, enum minisign_hash long_digest,
-    minisign_list_entry *entries, size_t entries_len, size_t *count, uint64_t *line);
+    minisign_list_entry *entries MINISIGN_ROLE(array), size_t entries_len, size_t *count, uint64_t *line);
 
 /* The state of checking one file against its entry. You allocate it. Only the library writes its bytes. */
 typedef struct minisign_list_file {

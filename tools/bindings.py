@@ -133,10 +133,12 @@ def columns_of(call, header, table, kind_of, length_of, field_of=str):
         }
 
     def parts_of(parameter):
-        for role, part in roles(call, header, header.structs[parameter.kind] if parameter.kind in header.in_parts else ()):
+        fields = header.structs[parameter.kind] if parameter.kind in header.in_parts else ()
+        length_names = {field.name: length.name for field, length in boundary.lengths(fields) if length}
+        for role, part in roles(call, header, fields):
             parameter, field = table[f"{role} among parts"]
             columns[0].append(parameter.format(**filled(role, part)))
-            yield field.format(**filled(role, part))
+            yield field.format(**filled(role, part), length=length_names.get(part.name))
 
     for role, parameter in roles(call, header, call.parameters):
         values = filled(role, parameter)
@@ -568,7 +570,7 @@ RUST_ROLES = {
     "between parts": ",\n                ",
     "new array among parts": ("{name}: &[{of}; {count}]", "{name}: *{name}"),
     "bytes among parts": ("{name}: &[u8]",
-                          "{name}: {name}.as_ptr(),\n                {name}_len: {name}.len()"),
+                          "{name}: {name}.as_ptr(),\n                {length}: {name}.len()"),
 }
 RUST_CLEARED = """
 /// Clears the secret.

@@ -38,11 +38,14 @@ def plain_parameter(parameter):
 
 
 def lengths(parameters):
-    """Yields each parameter with its length parameter, which follows it, or None. A pointer to one struct has no length. The
-    length of an array of structs has the name of the array and `_len`."""
+    """Yields each parameter with its length parameter, which follows it, or None. A pointer to structs has a length only if
+    its role is `array`."""
     for parameter, after in zip(parameters, [*parameters[1:], None]):
-        counted = parameter.star and (not is_struct(parameter) or (after and after.name == f"{parameter.name}_len"))
-        yield parameter, after if counted and after and after.kind == "size_t" and not after.star else None
+        is_array = parameter.star and (not is_struct(parameter) or "array" in parameter.roles)
+        length = after if is_array and after and after.kind == "size_t" and not after.star else None
+        if "array" in parameter.roles and not length:
+            raise SourceError(f"{parameter.name} has the role `array`, but is not a pointer with a length after it")
+        yield parameter, length
 
 
 def is_struct(parameter):

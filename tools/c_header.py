@@ -5,6 +5,7 @@ parameters and fields with `MINISIGN_ROLE`. A form that this file does not know 
 
 Roles:
 
+    array         the pointer is to several structs, and the next parameter is their number
     output        the call fills the struct and does not read what it held before
     presence      1 if the pointer and the length after it are given, 0 if not
     room SIZE     a buffer of SIZE bytes is large enough. SIZE is a sum of numbers, of constants and sizes without
@@ -243,7 +244,7 @@ def roles_of(node):
     for attribute in children_of_kind(node, "AnnotateAttr"):
         words = [json.loads(each["value"]) for each in nodes_of(attribute) if each.get("kind") == "StringLiteral"]
         role, _, more = words[-1].partition(" ")
-        if role not in ("output", "presence", "room", "secret") or (role == "room") != bool(more):
+        if role not in ("array", "output", "presence", "room", "secret") or (role == "room") != bool(more):
             raise SourceError(f"{node['name']}: unknown role: {words}")
         roles[role] = more
     return roles
