@@ -1,6 +1,6 @@
 """Parses `include/minisign.h`, `include/minisign_install.h` and `include/minisign_list.h` with clang.
 
-The result has the constants, enums, structs and calls with their comments, and the roles that the headers give to
+The generators of tools/ and the tests use it. The result has the constants, enums, structs and calls with their comments, and the roles that the headers give to
 parameters and fields with `MINISIGN_ROLE`. A form that this file does not know is an error, so that nothing is skipped.
 
 Roles:
@@ -39,6 +39,8 @@ Call = namedtuple("Call", "answer name parameters comment")
 # A parameter, or a field of a struct: its declaration, and the parts of it. The count is that of an array, and empty otherwise.
 Value = namedtuple("Value", "text const kind star name count roles")
 
+# The options of clang that print the declarations as JSON.
+PRINT_TREE = ("-fsyntax-only", "-fparse-all-comments", "-Xclang", "-ast-dump=json")
 # A type as clang prints it, and a macro as -dD prints it.
 TYPE = re.compile(r"(const )?((?:enum )?\w+) ?(\*?)(?:\[(\d+)\])?")
 MACRO = re.compile(r"#define MINISIGN_(\w+)(?:\(([^)]*)\))? ?(.*)")
@@ -51,7 +53,7 @@ class Header:
     """The declarations of one or more headers.
 
     `in_parts` has the structs with pointers, which only the declared calls take: the proved calls take the fields one by
-    one. `secrets` has the structs with a secret field.
+    one. `secrets` has the structs with a secret field. `inline_calls` has the functions that a header defines itself.
     """
 
     def __init__(self, *texts):
@@ -84,7 +86,7 @@ class Header:
         }
         self.structs = {node["name"]: [value(field, text) for field in children_of_kind(node, "FieldDecl")]
                         for node, text in declared if node["kind"] == "RecordDecl"}
-        self.calls = [*calls_of(declared)]
+        self.calls, self.inline_calls = [*calls_of(declared)], [*calls_of(declared, is_inline=True)]
         self.in_parts = {name for name, fields in self.structs.items() if any(field.star for field in fields)}
         self.secrets = {name for name, fields in self.structs.items() if any("secret" in field.roles for field in fields)}
 
@@ -120,6 +122,15 @@ def install_headers():
 def all_headers():
     """Returns the declarations of all headers with proved calls."""
     return parsed(read(FILE), read(INSTALL_HEADER), read(LIST_HEADER))
+
+
+def macro_value(file, macro):
+    """Returns the value of a macro in any C header, for example one of c/, if the value is an integer."""
+    with tempfile.TemporaryDirectory(prefix="header-") as directory:
+        main = f'#include "{os.path.join(ROOT, file)}"\nenum {{ {PROBE}value = {macro} }};\n'
+        tree = json.loads(run_clang(directory, main, *PRINT_TREE))
+    return next(number for _, members in enums_of((node, "") for node in tree["inner"])
+                for _, name, number in members if name == f"{PROBE}value")
 
 
 def run_clang(directory, main, *flags):
@@ -171,13 +182,13 @@ def declarations(directory, names, macros):
     ]
     probes = "".join(f"    {PROBE}{name} = MINISIGN_{name}{arguments},\n" for name, arguments in numbers)
     main = includes(names) + (f"enum {{\n{probes}}};\n" if probes else "")
-    tree, file = json.loads(run_clang(directory, main, "-fsyntax-only", "-fparse-all-comments", "-Xclang", "-ast-dump=json")), ""
+    tree, file = json.loads(run_clang(directory, main, *PRINT_TREE)), ""
     texts = {name: read(name) for name in names}
     for node in tree["inner"]:
         file = declared_in = last_file(node.get("loc", {}), file)
         file = last_file(node, file)
         is_probe = declared_in.endswith("/main.c") and node["kind"] == "EnumDecl"
-        is_new = "previousDecl" not in node and node.get("storageClass") != "static" and not node.get("isImplicit")
+        is_new = "previousDecl" not in node and not node.get("isImplicit")
         if is_new and (is_probe or declared_in in texts):
             yield node, texts.get(declared_in, "")
 
@@ -250,11 +261,12 @@ def roles_of(node):
     return roles
 
 
-def calls_of(declared):
-    """Yields the calls. A comment above several declarations belongs to each of them."""
+def calls_of(declared, is_inline=False):
+    """Yields the calls, or with `is_inline` the static functions. A comment above several declarations belongs to each of
+    them."""
     comment, end = "", 0
     for node, text in declared:
-        if node["kind"] != "FunctionDecl":
+        if node["kind"] != "FunctionDecl" or (node.get("storageClass") == "static") != is_inline:
             continue
         begin = offset_of(node["range"]["begin"])
         if comment_of(node):

@@ -30,21 +30,23 @@ PROGRAMS = {"minisign.h": ("minisign_checksums", 40000, 20000),
             "minisign_list.h": ("minisign_list_checksums", 100000, 40000)}
 # The programs print a checksum after this number of calls.
 CALLS_PER_CHECKSUM = 1000
-# The number of each operation of an installation.
-OPERATION = re.compile(r"^    MINISIGN_DUE_\w+ = (\d+)", re.M)
 # Errors that these programs do not cause. (out_of_memory.c does.)
 NOT_CAUSED = {"OUT_OF_MEMORY"}
 # Two functions share a comment. For each of them, the errors that the comment names but only the other function
 # returns.
 RETURNED_ONLY_BY_OTHER = {"minisign_install_record": {"NO_RECORD"},
                           "minisign_install_no_record": {"DAMAGED_RECORD", "KEPT_BY_TIMESTAMP", "KEPT_BY_VERSION"}}
-# The declaration or definition of a function at the beginning of a line of a header: its result type and its name.
-FUNCTION = re.compile(r"^(?:MINISIGN_MUST_USE |static inline )?((?:enum )?\w+) (minisign_\w+)\(", re.M)
+
+
+def parsed_header(header):
+    """Returns the declarations of a header."""
+    return c_header.parsed(read(INCLUDE, header).decode())
 
 
 def functions_of(header):
     """Maps the name of each function of a header to its result type."""
-    return {name: kind for kind, name in FUNCTION.findall(read(INCLUDE, header).decode())}
+    declared = parsed_header(header)
+    return {call.name: call.answer for call in [*declared.calls, *declared.inline_calls]}
 
 
 def checksums_in(output):
@@ -103,7 +105,7 @@ class Checksums:
                 self.checks.check(0 in results and len(results) > 1, f"{program}.c: {name} returned only {sorted(results)}")
         self.checks.same(sorted(set(returned) - set(functions)), [], f"functions that {header} does not declare")
         if "minisign_install_due" in functions:
-            operations = {int(number) for number in OPERATION.findall(read(INCLUDE, header).decode())}
+            operations = {operation.number for operation in parsed_header(header).enums["due"]}
             self.checks.same(returned["minisign_install_due"], operations, "the operations that were due")
 
     def check(self, build_name, *build, prefix=()):

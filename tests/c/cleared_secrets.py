@@ -32,8 +32,9 @@ import tempfile
 
 HERE = os.path.dirname(os.path.realpath(__file__))
 SHARED = os.path.join(HERE, "..", "shared")
-sys.path += [SHARED, os.path.join(HERE, "..", "command_line")]
+sys.path += [SHARED, os.path.join(HERE, "..", "command_line"), os.path.join(HERE, "..", "..", "tools")]
 
+import c_header
 import emulated
 import mutants
 import needles
@@ -131,8 +132,7 @@ class Builder:
 
 def cleared_bytes():
     """Returns the number of bytes of the stack that the library clears."""
-    header = read(static_library.DIRECTORY, "library", "clearing.h").decode()
-    return int(re.search(r"(?m)^#define CLEARED_BYTES (\d+)$", header)[1])
+    return c_header.macro_value("c/library/clearing.h", "CLEARED_BYTES")
 
 
 def check_run(checks, description, run):

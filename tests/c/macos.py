@@ -36,8 +36,9 @@ import tempfile
 import unicodedata
 
 HERE = os.path.dirname(os.path.realpath(__file__))
-sys.path += [os.path.join(HERE, "..", "shared")]
+sys.path += [os.path.join(HERE, "..", "shared"), os.path.join(HERE, "..", "..", "tools")]
 
+import c_header
 import emulated
 import macos_headers
 import mutants
@@ -132,14 +133,14 @@ def check_linking(checks, scratch, directory, header_flags):
             for name in names
         }
         libraries = {name for name in installed if name.startswith("lib/") and not name.startswith("lib/pkgconfig/")}
-        version = re.search(r'#define MINISIGN_VERSION_TEXT "((\d+\.\d+)\.\d+)"', macos_headers.read_text(f"{INCLUDE}/minisign.h"))
+        version = dict(c_header.all_headers().texts)["VERSION_TEXT"].strip('"')
         expected = {
             "lib/libminisign.a",
             "lib/libminisign-installing.a",
-            *(f"lib/libminisign{part}.dylib" for part in ("", f".{version[2]}", f".{version[1]}")),
+            *(f"lib/libminisign{part}.dylib" for part in ("", f".{version.rpartition('.')[0]}", f".{version}")),
         }
         checks.check(libraries == expected, f"{target}: {sorted(libraries)} are installed, expected {sorted(expected)}")
-        check_linked(checks, f"{root}/usr/local/lib/libminisign.{version[1]}.dylib", target, LIBRARY_KIND)
+        check_linked(checks, f"{root}/usr/local/lib/libminisign.{version}.dylib", target, LIBRARY_KIND)
         for name in ("minisign", "minisign-install", "minisign-check"):
             check_linked(checks, f"{root}/usr/local/bin/{name}", target, PROGRAM_KIND)
         status, output = run([nm, "-gUj", f"{out}/libminisign.dylib"])

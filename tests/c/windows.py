@@ -15,7 +15,7 @@ in windows_mutants, only the changed file is compiled, and its case ends at the 
 Wine has no access control lists, virus scanners, or file systems of Windows. docs/WINDOWS.md says what must be
 checked on Windows. The script prints a line for each failure; the last line is `N passed, M failed`.
 
-Needs make, gcc, minisign, libsodium with its header, and the Debian packages wine64, gcc-mingw-w64-x86-64,
+Needs make, gcc, clang, minisign, libsodium with its header, and the Debian packages wine64, gcc-mingw-w64-x86-64,
 dpkg-dev, autoconf, automake, libtool and zip. Missing packages are installed if that is permitted.
 """
 
@@ -39,8 +39,9 @@ import time
 import zipfile
 
 HERE = os.path.dirname(os.path.realpath(__file__))
-sys.path.append(os.path.join(HERE, "..", "shared"))
+sys.path += [os.path.join(HERE, "..", "shared"), os.path.join(HERE, "..", "..", "tools")]
 
+import c_header
 import mutants
 import needs
 import case_selection
@@ -710,8 +711,8 @@ class Cases:
 
     def describes_the_program(self):
         """The version resource and `minisign -v` must show the version in the header."""
-        header = read(C, "..", "include", "minisign.h").decode()
-        version = ".".join(re.search(rf"define MINISIGN_VERSION_{part} (\d+)", header)[1] for part in ("MAJOR", "MINOR", "PATCH"))
+        numbers = dict(c_header.all_headers().numbers)
+        version = ".".join(numbers[f"VERSION_{part}"] for part in ("MAJOR", "MINOR", "PATCH"))
         result = run_program(
             [self.wine.program, self.helper, "version", self.exe], self.scratch, None, SECONDS, env=self.wine.variables
         )

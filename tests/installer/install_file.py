@@ -10,20 +10,20 @@ tests/bindings/python.py tests it through the Python package. The mutants in ins
 `minisign_install_file`. For each mutant, one case has to fail. Prints a line for each failure; the last line is
 `N passed, M failed`.
 
-Needs Python 3.9 or later, make, a C compiler, libsodium with its header, minisign and git.
+Needs Python 3.9 or later, make, a C compiler, clang, libsodium with its header, minisign and git.
 """
 
 import base64
 import concurrent.futures
 import os
-import re
 import sys
 import tempfile
 from functools import partial
 
 HERE = os.path.dirname(os.path.realpath(__file__))
-sys.path += [os.path.join(HERE, "..", "shared"), os.path.join(HERE, "..", "tool")]
+sys.path += [os.path.join(HERE, "..", "shared"), os.path.join(HERE, "..", "tool"), os.path.join(HERE, "..", "..", "tools")]
 
+import c_header
 import mutants
 import needs
 import proved
@@ -31,16 +31,14 @@ import static_library
 import test_script
 from installers import EXPIRED_FIELD, LATER_DATA, LOCK, NEW_DATA, OLD_DATA, PK, RECORD, TARGET, Signer
 from list_updates import LIST, NEW_LIST, line, offer_list, sha512
-from running import Failure, expect, read, run_case_named, run_cases
+from running import Failure, expect, run_case_named, run_cases
 from runs import Cases, InstallerRunner
 from updates import OTHER_KEY, SIZE_FIELD, UNEXPIRED_FIELD
 
 one_call_cases = Cases()
 
-ERRORS = {
-    name: int(number)
-    for name, number in re.findall(r"MINISIGN_(\w+) = (\d+)", read(proved.ROOT, "include", "minisign.h").decode())
-}
+# The members of `enum minisign_error`, by name without `MINISIGN_`.
+ERRORS = {error.name: error.number for error in c_header.all_headers().enums["error"]}
 # The constants of minisign_installing.h: results, phases and kinds of messages.
 (INSTALLED, FAILED, MISUSE, REJECTED, OLDER, IN_USE, NOT_SYNCED, UNRECORDED, SAME_VERSION, EXPIRED, ALREADY_INSTALLED, TOO_LARGE,
  STOPPED) = range(13)

@@ -22,7 +22,7 @@ The mutants in recorded_mutants break the code that performs operations. For eac
 must have an offence.
 
 Needs the program `trace_reader`, as `rt ci` or `rt run` built it, Python 3.9 or later, Debian's Python with setuptools and wheel,
-make, a C compiler, libsodium with its header, minisign and git. Prints a line for each case that failed; the last line is
+make, a C compiler, clang, libsodium with its header, minisign and git. Prints a line for each case that failed; the last line is
 `N passed, M failed`.
 """
 

@@ -14,18 +14,20 @@ file does not change what the run reads. So such a change is added to the trace 
 
 import errno
 import os
-import re
 import signal
 import socket
 import stat
 import struct
 import subprocess
+import sys
 from collections import namedtuple
 from dataclasses import dataclass, field
 
-import proved
+sys.path.append(os.path.join(os.path.dirname(os.path.realpath(__file__)), "..", "..", "tools"))
+
+import c_header
 from installers import ALREADY_INSTALLED, LOCK, RECORD, TARGET, TEMPORARY_PREFIX
-from running import SECONDS, Failure, read
+from running import SECONDS, Failure
 
 # The functions of minisign_install.h, without the prefix of their names, and the functions of the C library that
 # recorded_calls.c wraps.
@@ -40,9 +42,9 @@ SYSTEM_CALLS = (
 CHANGING_CALLS = ("open", "openat", "fchmod", "renameat", "unlinkat", "write")
 # The linker options for recorded_calls.c.
 WRAP_OPTIONS = [f"-Wl,--wrap={name}" for name in (*(f"minisign_install_{call}" for call in MACHINE_CALLS), *SYSTEM_CALLS)]
-# The names of operations, by number.
-HEADER = read(proved.ROOT, "include", "minisign_install.h").decode()
-OPERATIONS = {int(number): name for name, number in re.findall(r"MINISIGN_DUE_(\w+) = (\d+)", HEADER)}
+# The enums of minisign.h and minisign_install.h, and the names of operations by number.
+ENUMS = c_header.install_headers().enums
+OPERATIONS = {operation.number: operation.name.removeprefix("DUE_") for operation in ENUMS["due"]}
 # The final operations of a machine, and the exit statuses of minisign-install that are correct for them. WOULD_INSTALL
 # is the result of a check. --check may still fail then, because the target cannot be replaced. Without --check, a run
 # first checks data from a pipe, and ends with WOULD_INSTALL only if it cannot receive the data.
@@ -53,9 +55,9 @@ FINAL_STATUSES = {
     "ALREADY_INSTALLED": (ALREADY_INSTALLED,),
     "REJECTED": FAILURES,
 }
-CONSTANTS = dict(re.findall(r"MINISIGN_(\w+) = (0x[0-9a-f]+|\d+)", read(proved.ROOT, "include", "minisign.h").decode()))
-TARGET_IN_USE = int(CONSTANTS["TARGET_IN_USE"])
-ANSWERS = {int(CONSTANTS["ANSWER_YES"], 16): "accepted", int(CONSTANTS["ANSWER_NO"], 16): "refused"}
+TARGET_IN_USE = next(error.number for error in ENUMS["error"] if error.name == "TARGET_IN_USE")
+# The words of `trace_reader` for the results of the Ed25519 checks, by number.
+ANSWERS = {answer.number: {"ANSWER_YES": "accepted", "ANSWER_NO": "refused"}[answer.name] for answer in ENUMS["answer"]}
 # Effects that no operation may have. `trace_reader` has no names for them.
 UNNAMED_EFFECTS = ("target_changed", "record_changed", "data_overwritten", "another_file_synced")
 # Effects on the temporary files that a failed operation may have. They are not recorded.
