@@ -16,25 +16,21 @@ Wine has no access control lists, virus scanners, or file systems of Windows. do
 checked on Windows. The script prints a line for each failure; the last line is `N passed, M failed`.
 
 Needs make, gcc, clang, minisign, libsodium with its header, and the Debian packages wine64, gcc-mingw-w64-x86-64,
-dpkg-dev, autoconf, automake, libtool and zip. Missing packages are installed if that is permitted.
+dpkg-dev, autoconf, automake, libtool, zip and python3-pexpect. Missing packages are installed if that is permitted.
 """
 
 import concurrent.futures
 import contextlib
-import fcntl
 import glob
 import hashlib
 import os
-import pty
 import re
-import select
 import shutil
 import signal
 import stat
 import subprocess
 import sys
 import tempfile
-import termios
 import time
 import zipfile
 
@@ -47,6 +43,7 @@ import needs
 import case_selection
 import static_library
 import test_script
+from at_terminal import AtTerminal
 from checks import Checks
 from process import RunResult, run, run_program
 from running import Failure, expect, read, write
@@ -105,8 +102,10 @@ FOUR_GIB = 4 << 30
 HOME = "h\u00f6me"
 # Messages that wine itself prints, for example if a process of wine crashes on a busy machine.
 WINE_MESSAGE = re.compile(rb"(?m)^wine: .*\n")
-# Escape sequences of wine's console. It writes a space as a movement of the cursor, which ends with C.
-ESCAPES = re.compile(rb"\x1b\[\??[0-9;]*[A-Za-z]|\x1b\][^\x07]*\x07|\x1b[=>]")
+# An escape sequence of wine's console, which may write some between any two characters. It writes a space as a movement of
+# the cursor, which ends with C.
+ESCAPE = rb"\x1b\[\??[0-9;]*[A-Za-z]|\x1b\][^\x07]*\x07|\x1b[=>]"
+ESCAPES, SPACE = re.compile(ESCAPE), rb"(?: |\x1b\[[0-9]*C)"
 
 
 class InitializedWine(Wine):
@@ -120,57 +119,21 @@ class InitializedWine(Wine):
         static_library.run_or_fail([self.program, "cmd", "/c", "exit"], scratch, **self.variables)
 
 
-class Console:
+class Console(AtTerminal):
     """A Windows program at a console of wine, which runs at a pseudoterminal."""
 
     def __init__(self, command, directory, environment):
-        self.raw, (self.user_end, program_end) = b"", pty.openpty()
-        self.process = subprocess.Popen(
-            command,
-            cwd=directory,
-            env={**environment, "TERM": "xterm"},
-            stdin=program_end,
-            stdout=program_end,
-            stderr=program_end,
-            start_new_session=True,
-            preexec_fn=lambda: fcntl.ioctl(0, termios.TIOCSCTTY, 0),
-        )
-        os.close(program_end)
+        super().__init__(command, command[0], directory, {**environment, "TERM": "xterm"})
 
     @property
     def screen_text(self):
         """The text that the console has shown so far, without escape sequences."""
-        return ESCAPES.sub(lambda match: b" " if match[0].endswith(b"C") else b"", self.raw)
+        return ESCAPES.sub(lambda match: b" " if match[0].endswith(b"C") else b"", self.shown)
 
-    def wait_for(self, pattern, seconds=SECONDS):
-        """Reads until the pattern is shown, or with None until the program ends. Returns false if the program ends
-        first, or if the time limit is reached."""
-        end = time.monotonic() + seconds
-        while time.monotonic() < end and not (pattern and re.search(pattern, self.screen_text)):
-            if select.select([self.user_end], [], [], 0.05)[0]:
-                try:
-                    self.raw += os.read(self.user_end, 1 << 16)
-                except OSError:
-                    break
-            elif self.process.poll() is not None:
-                break
-        return bool(pattern and re.search(pattern, self.screen_text))
-
-    def type(self, line):
-        """Types bytes at the console."""
-        os.write(self.user_end, line)
-
-    def finish(self, seconds=SECONDS):
-        """Waits for the program to end and returns its exit status, or None if it was still running at the time limit."""
-        self.wait_for(None, seconds)
-        try:
-            return self.process.wait(10)
-        except subprocess.TimeoutExpired:
-            self.process.kill()
-            self.process.wait()
-            return None
-        finally:
-            os.close(self.user_end)
+    def wait_for(self, text):
+        """Waits until the console shows the text. Returns false if the program ends first, or if the time limit is reached."""
+        pattern = b"".join(rb"(?:%s)*" % ESCAPE + (SPACE if letter == " " else re.escape(letter).encode()) for letter in text)
+        return self.expect(pattern) is not None
 
 
 class Cases:
@@ -586,7 +549,7 @@ class Cases:
     def hides_passwords(self):
         """A password is read as UTF-16 and used as UTF-8, and the console does not show it."""
         console = self.console("-G", "-p", "t.pub", "-s", "t.key", "-k", "16")
-        for prompt in (rb"Password: ", rb"Password \(one more time\): "):
+        for prompt in ("Password: ", "Password (one more time): "):
             self.checks.check(console.wait_for(prompt), f"the console shows {console.screen_text[-300:]}, expected {prompt}")
             # On a busy machine, wine needs some time until it stops echoing.
             time.sleep(2)
@@ -603,22 +566,22 @@ class Cases:
             # No password decrypts a key that is encrypted with None. Ctrl-C ends the program before it would notice.
             self.put("slow.key", text_of(seal_record(record_of(self.get("a.key")), None, Limits(1 << 30, 1 << 25))))
             console = self.console("-S", "-s", "slow.key", "-k", "256", "-m", "data")
-            self.checks.check(console.wait_for(rb"Password: "), f"{phase}: the console shows {console.screen_text[-300:]}")
+            self.checks.check(console.wait_for("Password: "), f"{phase}: the console shows {console.screen_text[-300:]}")
             time.sleep(2)
             if typed:
                 console.type(typed)
-                self.checks.check(console.wait_for(rb"Deriving"), f"{phase}: the console shows {console.screen_text[-300:]}")
+                self.checks.check(console.wait_for("Deriving"), f"{phase}: the console shows {console.screen_text[-300:]}")
                 time.sleep(0.3)
             console.type(b"\x03")
-            status = console.finish(20)
-            self.checks.check(status not in (0, None), f"Ctrl-C {phase}: status {status}, {console.screen_text[-300:]}")
+            status = console.finish(seconds=20)
+            self.checks.check(status > 0, f"Ctrl-C {phase}: status {status}, {console.screen_text[-300:]}")
             self.checks.check(
                 b"done" not in console.screen_text, f"Ctrl-C {phase}: the key was derived: {console.screen_text[-300:]}"
             )
         console = self.console("-G", "-p", "new.pub", "-s", "new.key")
-        self.checks.check(console.wait_for(rb"Password: "), f"-G shows {console.screen_text[-300:]}")
+        self.checks.check(console.wait_for("Password: "), f"-G shows {console.screen_text[-300:]}")
         console.type(b"\x03")
-        self.checks.check(console.finish(20) not in (0, None), "Ctrl-C does not end -G")
+        self.checks.check(console.finish(seconds=20) > 0, "Ctrl-C does not end -G")
         self.checks.check(self.get("data.minisig") == b"old" and not self.existing("new.pub", "new.key") and not self.leftovers(),
                           f"Ctrl-C leaves {os.listdir(self.scratch)}")
 

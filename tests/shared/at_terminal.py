@@ -62,19 +62,20 @@ class AtTerminal:
         while self.is_echoing() and time.monotonic() < end:
             time.sleep(0.002)
 
-    def finish(self, line=b""):
-        """Types the line, unless it is empty, waits for the program to end, and returns its exit status."""
+    def finish(self, line=b"", seconds=SECONDS):
+        """Types the line, unless it is empty, and reads what the terminal shows until the program ends or the time limit
+        is reached. Then does what `end` does."""
         if line:
             self.type(line)
         with contextlib.suppress(self.pexpect.TIMEOUT):
-            self.terminal.expect(self.pexpect.EOF)
-        return self.end()
+            self.terminal.expect(self.pexpect.EOF, timeout=seconds)
+        return self.end(seconds)
 
-    def end(self):
-        """Waits for the program to end, closes the terminal, and returns the exit status. Kills the program after
-        SECONDS."""
+    def end(self, seconds=SECONDS):
+        """Waits for the program to end, closes the terminal, and returns the exit status. Kills the program at the time
+        limit; the status is then negative."""
         try:
-            self.process.wait(SECONDS)
+            self.process.wait(seconds)
         except subprocess.TimeoutExpired:
             self.process.kill()
             self.process.wait()
