@@ -124,13 +124,21 @@ def all_headers():
     return parsed(read(FILE), read(INSTALL_HEADER), read(LIST_HEADER))
 
 
-def macro_value(file, macro):
-    """Returns the value of a macro in any C header, for example one of c/, if the value is an integer."""
+def enum_values(file, enum, more=""):
+    """Returns the members of an enum in any C header, for example one of c/, with their values. `more` is C code that
+    follows the header."""
     with tempfile.TemporaryDirectory(prefix="header-") as directory:
-        main = f'#include "{os.path.join(ROOT, file)}"\nenum {{ {PROBE}value = {macro} }};\n'
-        tree = json.loads(run_clang(directory, main, *PRINT_TREE))
-    return next(number for _, members in enums_of((node, "") for node in tree["inner"])
-                for _, name, number in members if name == f"{PROBE}value")
+        main = f'#include "{os.path.join(ROOT, file)}"\n{more}'
+        tree = json.loads(run_clang(directory, main, "-I", os.path.join(ROOT, "c"), *PRINT_TREE))
+    nodes = [(node, "") for node in tree["inner"] if node["kind"] == "EnumDecl" and node.get("name") == enum]
+    if len(nodes) != 1:
+        raise SourceError(f"{file} has {len(nodes)} enums {enum}")
+    return {name: number for _, members in enums_of(nodes) for _, name, number in members}
+
+
+def macro_value(file, macro):
+    """Returns the value of a macro in any C header, if it is an integer."""
+    return enum_values(file, f"{PROBE}macro", f"enum {PROBE}macro {{ {PROBE}value = {macro} }};\n")[f"{PROBE}value"]
 
 
 def run_clang(directory, main, *flags):

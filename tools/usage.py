@@ -10,7 +10,7 @@ In docs/INSTALLING.md and docs/LISTS.md a section is between two lines with its 
 paragraph of DESCRIPTION, and its first sentence is NAME. All of `usage.h` is generated. The script fails if the text does
 not have exactly the options and exit statuses of the program.
 
-Needs Python 3.9 or later.
+Needs Python 3.9 or later and clang.
 """
 
 import re
@@ -18,26 +18,27 @@ import sys
 import textwrap
 from collections import namedtuple
 
+import c_header
 import manual
 import sources
 from sources import SourceError, read
 
-# A program, its document, the directory of its sources, the file that defines its exit statuses, and its placeholders, which a
-# user replaces.
+# A program, its document, the directory of its sources, the header and the enum of its exit statuses, and its placeholders,
+# which a user replaces.
 Program = namedtuple("Program", "name document directory statuses places")
 PROGRAMS = (
     Program(
         "minisign-install",
         "docs/INSTALLING.md",
         "c/install",
-        "include/minisign_installing.h",
+        ("include/minisign_installing.h", "minisign_install_status"),
         ("OPTION", "PK", "DATA", "SIG", "TARGET", "FIELD", "KEY", "NAME", "FILE", "MODE", "BYTES", "SECONDS"),
     ),
     Program(
         "minisign-check",
         "docs/LISTS.md",
         "c/check",
-        "c/check/outcomes.h",
+        ("c/check/outcomes.h", "outcome"),
         ("OPTION", "PUBKEY", "KEY", "LIST", "FILE", "SIG", "DIR"),
     ),
 )
@@ -51,6 +52,8 @@ HEAD = """\
 #ifndef {guard}
 #define {guard}
 """
+# The results of minisign_install_file that are no exit statuses.
+NO_STATUSES = {"MINISIGN_STATUS_TOO_LARGE", "MINISIGN_STATUS_STOPPED"}
 # Earlier names of options, which still work.
 UNDOCUMENTED = {"--most"}
 # The maximum length of a line of `--help`, the indentation there, and the maximum length of a string literal in C.
@@ -81,9 +84,10 @@ def in_one_line(text):
 
 def compare(program, text):
     """Fails if the text has other options or exit statuses than the program."""
-    options, statuses = read(file_of(program, "options.c")), read(program.statuses)
-    for name, pattern, known in (("options", r"(?<!\S)--?\w[\w-]*", re.findall(r'"(--?\w[\w-]*)"', options)),
-                                 ("statuses", r"\d+", re.findall(r"[A-Z] = (\d|10)\b", statuses))):
+    options = re.findall(r'"(--?\w[\w-]*)"', read(file_of(program, "options.c")))
+    members = c_header.enum_values(*program.statuses)
+    statuses = [str(number) for member, number in members.items() if member not in NO_STATUSES]
+    for name, pattern, known in (("options", r"(?<!\S)--?\w[\w-]*", options), ("statuses", r"\d+", statuses)):
         written = {word for entry in text[name] for word in re.findall(pattern, entry.name)}
         expected = {*known} - UNDOCUMENTED
         if written != expected:
