@@ -124,20 +124,24 @@ def all_headers():
     return parsed(read(FILE), read(INSTALL_HEADER), read(LIST_HEADER))
 
 
-def enum_values(file, enum, more=""):
-    """Returns the members of an enum in any C header, for example one of c/, with their values. `more` is C code that
-    follows the header."""
+def tree_of(file, more=""):
+    """Returns the declarations in any C file, for example one of c/, and in those that it includes, as nodes of clang's tree.
+    `more` is C code that follows the file."""
     with tempfile.TemporaryDirectory(prefix="header-") as directory:
         main = f'#include "{os.path.join(ROOT, file)}"\n{more}'
-        tree = json.loads(run_clang(directory, main, "-I", os.path.join(ROOT, "c"), *PRINT_TREE))
-    nodes = [(node, "") for node in tree["inner"] if node["kind"] == "EnumDecl" and node.get("name") == enum]
+        return json.loads(run_clang(directory, main, "-I", os.path.join(ROOT, "c"), *PRINT_TREE))["inner"]
+
+
+def enum_values(file, enum, more=""):
+    """Returns the members of an enum with their values. The parameters are those of `tree_of`."""
+    nodes = [(node, "") for node in tree_of(file, more) if node["kind"] == "EnumDecl" and node.get("name") == enum]
     if len(nodes) != 1:
         raise SourceError(f"{file} has {len(nodes)} enums {enum}")
     return {name: number for _, members in enums_of(nodes) for _, name, number in members}
 
 
 def macro_value(file, macro):
-    """Returns the value of a macro in any C header, if it is an integer."""
+    """Returns the value of a macro of any C header, if it is an integer."""
     return enum_values(file, f"{PROBE}macro", f"enum {PROBE}macro {{ {PROBE}value = {macro} }};\n")[f"{PROBE}value"]
 
 

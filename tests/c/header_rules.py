@@ -16,7 +16,7 @@ and lengths, and that the examples follow the rules of the headers.
 
 The script prints a line for each failure; the last line is `N passed, M failed`.
 
-Needs gcc, g++, clang, tcc and musl-gcc; missing packages are installed if that is permitted.
+Needs gcc, g++, clang, tcc, musl-gcc, and libsodium with its header; missing packages are installed if that is permitted.
 """
 
 import glob
@@ -161,29 +161,44 @@ def check_correct_calls(checks, scratch, calls):
 
 
 # Local variables of these types must be set to zeros before their first use. Static variables are zero already.
-ZEROED = re.compile(r"(?m)^ +(minisign_(?:signature|public_key|secret_key|unopened_key)) (\w+(?:, \w+)*)( = \{ 0 \})?;")
+ZEROED = {f"minisign_{name}" for name in ("signature", "public_key", "secret_key", "unopened_key")}
 
 
-def not_zeroed(text):
-    """Yields the variables that are not set to zeros, neither in their declaration nor by memset in the same function."""
-    # Declarations of structs are removed, because their fields are set to zeros with the variable.
-    text = re.sub(r"(?ms)^(typedef )?(static )?(const )?struct \w* ?\{.*?^\}", "", text)
-    for function in re.split(r"(?m)^\}", text):
-        for kind, names, is_zero in ZEROED.findall(function):
-            yield from (
-                f"{kind} {name}"
-                for name in names.split(", ")
-                if not is_zero and f"memset(&{name}, 0, sizeof {name})" not in function
-            )
+def names_in(node):
+    """Returns the names of the functions and variables to which a node of clang's tree refers."""
+    return {each["referencedDecl"]["name"] for each in c_header.nodes_of(node) if "referencedDecl" in each}
+
+
+def set_by_memset(nodes):
+    """Returns the names of the variables that `memset(&name, 0, sizeof name)` sets to zeros."""
+    calls = [node["inner"] for node in nodes if node.get("kind") == "CallExpr" and names_in(node["inner"][0]) == {"memset"}]
+    return set().union(*(names_in(target) & names_in(size) for _, target, value, size in calls if value.get("value") == "0"))
+
+
+def zeroed_variables(file):
+    """Yields the local variables of a C file that have one of these types, and True if they are set to zeros: either in
+    their declaration or by memset in the same function."""
+    for function in c_header.tree_of(file):
+        if function["kind"] != "FunctionDecl" or not c_header.children_of_kind(function, "CompoundStmt"):
+            continue
+        nodes = [*c_header.nodes_of(function)]
+        for node in nodes:
+            # A reference to a variable contains a node with the same kind, but without a location.
+            is_local = node.get("kind") == "VarDecl" and "loc" in node and node.get("storageClass") != "static"
+            if is_local and node["type"]["qualType"] in ZEROED:
+                is_zeroed = "init" in node or node["name"] in set_by_memset(nodes)
+                yield f"{node['type']['qualType']} {node['name']} in {function['name']}", is_zeroed
 
 
 def check_examples(checks):
-    """Checks that the examples and the functions of the headers set the variables that ZEROED matches to zeros."""
+    """Checks that the examples and the functions of the headers set the variables of the types ZEROED to zeros."""
+    needs.compiler_with_libsodium()
     files = [*glob.glob(f"{TOP}/c/examples/*.c"), *glob.glob(f"{INCLUDE}/*.h"), *glob.glob(f"{TOP}/bench/*.c")]
-    texts = {os.path.relpath(file, TOP): read(file).decode() for file in files}
-    checks.check(sum(len(ZEROED.findall(text)) for text in texts.values()) > 4, "the examples have too few such variables")
-    for name, text in texts.items():
-        checks.check(not [*not_zeroed(text)], f"{name}: not set to zeros: {', '.join(not_zeroed(text))}")
+    variables = {os.path.relpath(file, TOP): [*zeroed_variables(file)] for file in files}
+    checks.check(sum(map(len, variables.values())) > 4, "the examples have too few such variables")
+    for file, found in variables.items():
+        wrong = [name for name, is_zeroed in found if not is_zeroed]
+        checks.check(not wrong, f"{file}: not set to zeros: {', '.join(wrong)}")
 
 
 def check_roles(checks, calls, structs):
