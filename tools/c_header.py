@@ -1,11 +1,12 @@
 """Parses `include/minisign.h`, `include/minisign_install.h` and `include/minisign_list.h` with clang.
 
-The generators of tools/ and the tests use it. The result has the constants, enums, structs and calls with their comments, and the roles that the headers give to
-parameters and fields with `MINISIGN_ROLE`. A form that this file does not know is an error, so that nothing is skipped.
+The generators in tools/ and the tests use this module. The result has the constants, enums, structs and calls with their
+comments, and the roles that the headers give to parameters and fields with `MINISIGN_ROLE`. A form that this file does
+not know is an error, so that nothing is skipped. `tree_of`, `enum_values` and `macro_value` parse any other C file.
 
 Roles:
 
-    array         the pointer is to several structs, and the next parameter is their number
+    array         a pointer to an array of structs; the next parameter is the length of the array
     output        the call fills the struct and does not read what it held before
     presence      1 if the pointer and the length after it are given, 0 if not
     room SIZE     a buffer of SIZE bytes is large enough. SIZE is a sum of numbers, of constants and sizes without
