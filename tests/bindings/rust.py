@@ -497,6 +497,10 @@ def check_toolchain(checks, scratch, toolchain, minisign, is_first):
     checks.check(status != 0, "the crate can be built without its directory library")
 
 
+# Runs even if only other checks are selected (tests/shared/case_selection.py), because it calls them.
+ALWAYS = ("check_toolchain",)
+
+
 def run_all(checks, scratch):
     debian_crates.use(scratch)
     minisign = shared_cases.build_c_minisign(scratch)

@@ -2,7 +2,9 @@
 """Checks that the static library and the original Minisign write the same key files, and that each of them can use
 the keys of the other.
 
-    tests/c/key_compatibility.py
+    tests/c/key_compatibility.py [WORD ..]
+
+WORD selects the functions of PARTS whose names contain it.
 
   * With the limits of `minisign -G` and the same random bytes, the key files are equal, byte for byte. (fixed_random_and_time.c
     is preloaded into Minisign.)
@@ -25,6 +27,7 @@ import sys
 HERE = os.path.dirname(os.path.realpath(__file__))
 sys.path.append(os.path.join(HERE, "..", "shared"))
 
+import case_selection
 import needs
 import static_library
 import test_script
@@ -227,10 +230,19 @@ def writes_longest_comment(keys):
     keys.check(not keys.is_used(unsealed, longer), "Minisign reads a longer comment")
 
 
+PARTS = (seals_with_other_limits, respects_limits, writes_longest_comment, makes_same_files, reencrypts_keys)
+
+
+def case_names():
+    """Returns the names of all cases (tests/shared/case_selection.py)."""
+    return [part.__name__ for part in PARTS]
+
+
 def run_all(checks, scratch):
     keys = Keys(checks, scratch)
-    for part in (seals_with_other_limits, respects_limits, writes_longest_comment, makes_same_files, reencrypts_keys):
-        part(keys)
+    for part in PARTS:
+        if case_selection.is_selected(part.__name__):
+            part(keys)
 
 
 if __name__ == "__main__":

@@ -19,9 +19,9 @@ return with those that the archives return (call_checksums.py). With each mutant
 must differ. The mutants in processor_mutants have an effect only on s390x, and are tried there. The script prints a
 line for each failure; the last line is `N passed, M failed`.
 
-PART may also be Debian's name for another processor for which Debian has a cross compiler. CI does not run these,
-and the library does not clear registers on them. sh4 cannot be tested, because no program runs under Debian 12's
-emulator for it.
+PART is a word in the name of a part, or in Debian's name for another processor for which Debian has a cross compiler.
+CI does not run these, and the library does not clear registers on them. sh4 cannot be tested, because no program runs
+under Debian 12's emulator for it.
 
 Needs git, make, binutils, gcc, clang, tcc, musl-gcc, libsodium with its header, minisign, and the Debian packages
 qemu-user-static, wine64, gcc-mingw-w64-x86-64, and the cross compilers and C libraries for arm64, s390x, armhf and
@@ -36,6 +36,7 @@ import sys
 HERE = os.path.dirname(os.path.realpath(__file__))
 sys.path.append(os.path.join(HERE, "..", "shared"))
 
+import case_selection
 import cleared_secrets
 import emulated
 import needs
@@ -265,14 +266,17 @@ def check_systems(checks, scratch, _):
 
 PARTS = {"compilers": check_compilers, "archives": check_archives, "processors": check_processors, "windows": check_windows,
          "systems": check_systems}
-# The words on the command line name parts or processors, so case_selection.py must not skip any of these functions.
-ALWAYS = tuple(check.__name__ for check in PARTS.values())
+
+
+def case_names():
+    """Returns the names that the command line may contain (tests/shared/case_selection.py)."""
+    return [*PARTS, *MORE_KINDS]
 
 
 def run_all(checks, scratch):
     needs.compiler_with_libsodium()
     checksums = Checksums(checks, scratch)
-    for part in sys.argv[1:] or PARTS:
+    for part in case_selection.selected(case_names()) if case_selection.words() else PARTS:
         if part in PARTS:
             PARTS[part](checks, scratch, checksums)
         else:

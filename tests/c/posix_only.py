@@ -1,13 +1,14 @@
 #!/usr/bin/env python3
 """Checks that the programs in `c/` work without Linux-specific features, when they are built with -DPOSIX_ONLY.
 
-    tests/c/posix_only.py
+    tests/c/posix_only.py [WORD ..]
 
-The script runs the test scripts of all three programs with these builds: tests/command_line/command_line.py,
-tests/installer/installer_program.py and tests/check/check_program.py. All cases must pass, except those that match a
-pattern in WEAKER, which says what protection is missing. (None of these cases is about keeping a secret key from
-other users.) Each pattern must match a failing case. The script prints a line for each failure; the last line is
-`N passed, M failed`.
+The script checks that the programs call no function that only Linux has. It also runs the test scripts of all three
+programs with these builds: tests/command_line/command_line.py, tests/installer/installer_program.py and
+tests/check/check_program.py. All cases must pass, except those that match a pattern in WEAKER, which says what
+protection is missing. (None of these cases is about keeping a secret key from other users.) Each pattern must match a
+failing case. WORD selects the first check, `calls`, or scripts by their names. The script prints a line for each
+failure; the last line is `N passed, M failed`.
 
 Needs what these scripts need; missing packages are installed if that is permitted.
 """
@@ -19,6 +20,7 @@ import sys
 HERE = os.path.dirname(os.path.realpath(__file__))
 sys.path.append(os.path.join(HERE, "..", "shared"))
 
+import case_selection
 import needs
 import static_library
 import test_script
@@ -75,6 +77,11 @@ def check_script(checks, script, *arguments):
     checks.check(not failures, *failures)
 
 
+def case_names():
+    """Returns the names of all cases (tests/shared/case_selection.py)."""
+    return ["calls", *WEAKER]
+
+
 def run_all(checks, scratch):
     # Other users must be able to run the programs.
     os.chmod(scratch, 0o711)
@@ -82,11 +89,12 @@ def run_all(checks, scratch):
     # With C_CALLS=, dist/calls.c is not compiled. It is only needed for processors that are too old for the archives.
     static_library.run_make(f"OUT={scratch}/c", f"CC={needs.compiler_with_libsodium()}",
                             "CPPFLAGS=-D_FORTIFY_SOURCE=2 -DPOSIX_ONLY", "C_CALLS=", "-j4", *programs)
-    for program in programs:
-        check_calls(checks, program)
-    check_script(checks, "command_line/command_line.py", "--posix-only", programs[0])
-    check_script(checks, "installer/installer_program.py", programs[1])
-    check_script(checks, "check/check_program.py", programs[2])
+    if case_selection.is_selected("calls"):
+        for program in programs:
+            check_calls(checks, program)
+    for script, program in zip(WEAKER, programs):
+        if case_selection.is_selected(script):
+            check_script(checks, script, *(["--posix-only"] if "command_line" in script else []), program)
 
 
 if __name__ == "__main__":

@@ -1,7 +1,7 @@
 #!/usr/bin/env python3
 """Checks that the tests notice each mutant of the programs in `c/`: the test case that a mutant names must fail.
 
-    tests/c/program_mutants.py [NAME ..]     tries all mutants, or those with these names
+    tests/c/program_mutants.py [WORD ..]     tries all mutants, or those whose names contain one of the words
 
 The mutants in tests/installer are mutants of `minisign-install`, and those in tests/check of `minisign-check`. The
 mutants in tests/command_line remove steps of `minisign` that protect files from other users. Each mutant is built
@@ -23,6 +23,7 @@ from functools import partial
 HERE = os.path.dirname(os.path.realpath(__file__))
 sys.path += [os.path.join(HERE, "..", name) for name in ("shared", "verdicts", "lists", "installer", "check", "command_line")]
 
+import case_selection
 import check_program
 import check_running
 import mutants
@@ -112,10 +113,15 @@ def cases_of_minisign(paths, keys, program, scratch):
         yield from case_class(paths._replace(ours=program), scratch, keys).cases()
 
 
+def case_names():
+    """Returns the names of all mutants (tests/shared/case_selection.py)."""
+    return [mutant.name for program in ("installer", "check", "command_line") for mutant in mutants.mutants_of(program, "mutants")]
+
+
 def run_all(scratch):
-    """Tries the mutants. Returns the failures and the number of mutants."""
+    """Tries the selected mutants. Returns the failures and the number of mutants."""
     needs.compiler_with_libsodium()
-    names, failures, count = sys.argv[1:], [], 0
+    failures, count = [], 0
     preload = build_preload(scratch, "faulty_calls")
     lists = [(mutants.mutants_of("installer", "mutants"), NAME, partial(cases_of_installer, preload)),
              (mutants.mutants_of("check", "mutants"), check_running.NAME, partial(cases_of_check, preload))]
@@ -125,7 +131,7 @@ def run_all(scratch):
     else:
         print("skipped: only root can make files of other users")
     for all_mutants, program_name, cases_of_program in lists:
-        selected_mutants = [mutant for mutant in all_mutants if not names or mutant.name in names]
+        selected_mutants = [mutant for mutant in all_mutants if case_selection.is_selected(mutant.name)]
         failures += try_mutants(selected_mutants, scratch, program_name, cases_of_program) if selected_mutants else []
         count += len(selected_mutants)
     return failures, count

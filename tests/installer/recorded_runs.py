@@ -584,6 +584,12 @@ def check_mutant(sources, signer, mutant):
     return "" if found_offences else f"no run of the case `{mutant.case}` with the mutant {mutant.name} has an offence"
 
 
+def case_names():
+    """Returns the names of all cases and mutants (tests/shared/case_selection.py)."""
+    names = [mutant.name for mutant in mutants.mutants_of("installer", "recorded_mutants")]
+    return [*dict.fromkeys([*cases, *package_cases]), *names]
+
+
 def run_all(checks, scratch):
     if not os.access(PROGRAM, os.X_OK):
         raise needs.Missing(f"{PROGRAM} is missing: run rt ci")

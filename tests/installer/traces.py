@@ -1,7 +1,7 @@
 #!/usr/bin/env python3
 """Checks that the program `trace_reader` decides correctly whether a trace of an installer is lawful.
 
-    tests/installer/traces.py [--write] [--program PROGRAM]
+    tests/installer/traces.py [--write] [--program PROGRAM] [WORD ..]
 
 A trace lists what an installer did and what other processes did meanwhile. `trace_reader` prints `lawful` if the installer followed
 the rules of minisign_install, otherwise the number of the first item that breaks them. The head of
@@ -14,8 +14,8 @@ crates/trace_reader/src/main.rt describes the format.
 The signatures are made up, because a trace lists the signatures that Ed25519 accepts. With --write, the script writes some of the
 cases to crates/trace_reader/stdin, and the expected decisions to crates/trace_reader/stdout, which `rt ci` compares.
 
-PROGRAM is a build of `trace_reader`. By default, it is the program that `rt ci` or `rt run` built. The last line is
-`N passed, M failed`.
+PROGRAM is a build of `trace_reader`. By default, it is the program that `rt ci` or `rt run` built. WORD selects the cases whose
+names contain it. The last line is `N passed, M failed`.
 """
 
 import argparse
@@ -28,6 +28,7 @@ import sys
 HERE = os.path.dirname(os.path.realpath(__file__))
 sys.path.append(os.path.join(HERE, "..", "shared"))
 
+import case_selection
 from checks import Checks
 from needs import Missing
 
@@ -264,13 +265,15 @@ def main():
     parser = argparse.ArgumentParser(description=__doc__.splitlines()[0])
     parser.add_argument("--write", action="store_true")
     parser.add_argument("--program", default=PROGRAM)
+    parser.add_argument("words", nargs="*", metavar="WORD")
     arguments = parser.parse_args()
     if arguments.write:
         write()
         return 0
     checks = Checks()
-    all_cases = list(cases())
     try:
+        names = {*case_selection.selected((name for name, *_ in cases()), arguments.words)}
+        all_cases = [case for case in cases() if case[0] in names]
         if not os.access(arguments.program, os.X_OK):
             raise Missing(f"{arguments.program} is missing: run rt ci")
         text = "".join(f"{request}\n" for _, request, _ in all_cases)
@@ -280,8 +283,8 @@ def main():
                      f"status {result.returncode} and {len(decisions)} decisions, expected {len(all_cases)}: {result.stderr}")
         for (name, _, expected), decision in zip(all_cases, decisions):
             checks.same(decision, expected, name)
-    except Missing as missing:
-        checks.check(False, str(missing))
+    except (Missing, case_selection.UnknownWord) as error:
+        checks.check(False, error)
     return checks.end()
 
 

@@ -41,7 +41,7 @@ def rt_wrapper_directory(scratch):
     return path
 
 
-def run_all(checks, scratch):
+def check_commands(checks, scratch):
     """Checks that each command succeeds, that those that verify report success, and that the last one installs the
     data."""
     clone = Clone(scratch)
@@ -61,6 +61,10 @@ def run_all(checks, scratch):
     checks.same(read(clone.top, INSTALLED), DATA, INSTALLED)
     untracked = clone.git("status", "--porcelain")
     checks.check(not untracked, f"the commands left files that git does not ignore: {untracked}")
+
+
+def run_all(checks, scratch):
+    check_commands(checks, scratch)
 
 
 if __name__ == "__main__":

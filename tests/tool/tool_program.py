@@ -101,6 +101,13 @@ def built_programs():
     return [path for path in (program, program + ".by-rattle") if os.path.exists(path)]
 
 
+def case_names():
+    """Returns the names of all cases (tests/shared/case_selection.py). They do not depend on the program."""
+    with tempfile.TemporaryDirectory(prefix="tool-program-") as directory:
+        names = [name for name, *_ in tool_faults.cases(__file__, directory)]
+    return [f"{command}: {case.name}" for command, cases in CASES.items() for case in cases] + names
+
+
 def run_all(scratch):
     """Runs the cases with the program of the command line, or with each built program. Returns the failures and the
     number of cases."""
