@@ -77,6 +77,11 @@ def make_debian(root, is_all):
 
 def main(arguments):
     """Runs the script with these command-line arguments, and returns its exit status."""
+    scripts = run_or_fail(["make", "-s", "-f", "tests/Makefile", "list"], os.path.dirname(HERE)).split()
+    unknown = [argument for argument in arguments if argument not in ("--all", *scripts)]
+    if unknown:
+        print(f"FAILED: no script is named {' or '.join(unknown)}; the scripts are: {' '.join(scripts)}\n0 passed, 1 failed")
+        return 1
     targets = {(): ["debian"], ("--all",): ["check"]}.get(tuple(arguments), ["check", f"ONLY={' '.join(arguments)}"])
     with tempfile.TemporaryDirectory(prefix="fresh-debian-") as scratch:
         os.chmod(scratch, 0o755)

@@ -1,9 +1,10 @@
 #!/usr/bin/env python3
 """Checks that checksum lists are parsed in the same way as by the programs that write and check such lists.
 
-    tests/lists/signed_lists.py [--seed N] [--lists N]
+    tests/lists/signed_lists.py [--seed N] [--lists N] [WORD ..]
 
-The random lists are made from the seed; --lists is their number.
+The random lists are made from the seed; --lists is their number. WORD selects parts by their names: `tools`, `sha256sum`
+and `signify`.
 
   * Lists written by sha256sum, sha512sum, b2sum, cksum -a, openssl dgst -r and shasum, for files whose names have
     spaces, parentheses, `#`, stars, non-ASCII characters and directories: each file is accepted with its data, and
@@ -29,6 +30,7 @@ from collections import Counter
 HERE = os.path.dirname(os.path.realpath(__file__))
 sys.path.append(os.path.join(HERE, "..", "shared"))
 
+import case_selection
 from checks import Checks
 from needs import Missing, program
 
@@ -340,26 +342,31 @@ def compare_with_signify(checks, rng, count):
     return counts
 
 
+# The parts that the command line can select.
+PARTS = ("tools", "sha256sum", "signify")
+
+
 def main():
     parser = argparse.ArgumentParser()
     parser.add_argument("--seed", type=int, default=1)
     parser.add_argument("--lists", type=int, default=3000)
+    parser.add_argument("words", nargs="*", metavar="WORD")
     options = parser.parse_args()
     checks = Checks()
     try:
+        parts = case_selection.selected(PARTS, options.words)
         for name, package in (("openssl", "openssl"), ("shasum", "perl"), ("signify-openbsd", "signify-openbsd")):
             program(name, package)
-        check_tools(checks)
-        print(
-            "our response, and whether sha256sum accepts:",
-            dict(compare_with_sha256sum(checks, random.Random(options.seed), options.lists)),
-        )
-        print(
-            "our response, and whether signify accepts:",
-            dict(compare_with_signify(checks, random.Random(options.seed), options.lists // 10)),
-        )
-    except Missing as missing:
-        checks.check(False, missing)
+        if "tools" in parts:
+            check_tools(checks)
+        if "sha256sum" in parts:
+            counts = compare_with_sha256sum(checks, random.Random(options.seed), options.lists)
+            print("our response, and whether sha256sum accepts:", dict(counts))
+        if "signify" in parts:
+            counts = compare_with_signify(checks, random.Random(options.seed), options.lists // 10)
+            print("our response, and whether signify accepts:", dict(counts))
+    except (Missing, case_selection.UnknownWord) as error:
+        checks.check(False, error)
     return checks.end()
 
 

@@ -573,11 +573,32 @@ class Run:
         self.outcomes += outcomes
 
 
+def unknown_names(names):
+    """Returns an error that names what was expected instead, if one of the names is that of no crate and of no function with
+    mutants. Otherwise returns an empty string."""
+    crates = [*proved.crates()]
+    for name in names:
+        crate, slash, function = name.partition("/")
+        if crate not in crates:
+            return f"no crate is named {crate}; the crates are: {', '.join(crates)}"
+        if not slash:
+            continue
+        generators = generators_of(crate, False, names_of(crate, tuple(recorded().get(crate, ()))))
+        functions = sorted({generator.function for generator in generators} - {""})
+        if function not in functions:
+            return f"{crate} has no function {function}; its functions are: {', '.join(functions)}"
+    return ""
+
+
 def main(words):
     names, flags = [word for word in words if not word.startswith("--")], {word for word in words if word.startswith("--")}
     if not any(flags <= each for each in ({"--list"}, {"--unchanged"}, {"--all"})):
         raise SystemExit(__doc__)
     os.chdir(ROOT)
+    unknown = unknown_names(names)
+    if unknown:
+        print(f"FAILED: {unknown}\n0 passed, 1 failed")
+        return 1
     slots = ProverSlots()
     with ThreadPoolExecutor(slots.count) as pool:
         run = Run(names, flags, pool, slots)

@@ -434,7 +434,15 @@ def main(words):
     os.chdir(ROOT)
     bodies = {crate: crate_bodies for crate in proved.crates() for crate_bodies in [bodies_of(crate, is_unchanged)] if crate_bodies}
     known = {name for crate in bodies for name in (crate, *(body.label for body in bodies[crate]))}
-    failures = wrong_numbers(bodies, names) + [f"no crate or edit is named {name}" for name in names if name not in known]
+    unknown = [name for name in names if name not in known]
+    if unknown:
+        # If the crate is known, its edits are listed, and otherwise the crates.
+        parts = {name.partition("/")[0] for name in unknown} & {*bodies}
+        listed = [body.label for crate in sorted(parts) for body in bodies[crate]] or sorted(bodies)
+        print(f"FAILED: no crate or edit is named {' or '.join(unknown)}; the names are: {', '.join(listed)}")
+        print(f"0 passed, {len(unknown)} failed")
+        return 1
+    failures = wrong_numbers(bodies, names)
     digests, recorded_digests = tried_mutants.digests(bodies), tried_mutants.recorded()
     if "--record" in flags:
         recorded_here = tried_mutants.recorded(tried_mutants.TRIED_HERE)

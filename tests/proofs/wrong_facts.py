@@ -132,8 +132,10 @@ def try_facts(report, crate):
 def main(names):
     os.chdir(proved.ROOT)
     report, crates_with_facts = Checks(), [crate for crate in proved.crates() if os.path.exists(f"crates/{crate}/{FACTS}")]
-    for name in names:
-        report.check(name in crates_with_facts, f"crates/{name} has no {FACTS}")
+    unknown = [name for name in names if name not in crates_with_facts]
+    if unknown:
+        report.check(False, f"no {FACTS} in {' or '.join(unknown)}; the crates with facts are: {', '.join(crates_with_facts)}")
+        return report.end()
     for crate in crates_with_facts:
         if not names or crate in names:
             try_facts(report, crate)

@@ -3,7 +3,7 @@
 
     tests/rows/rows.py [MODULE ..]
 
-MODULE is the name of a module, such as `signing`; by default all modules are run. The program `minisign_compare`,
+MODULE is a word in the names of modules, such as `signing`; by default all modules are run. The program `minisign_compare`,
 which `rt ci` or `rt run` has built, makes the calls. No expected value was computed by a crate of this repository. They
 come from standards, from Python's hashlib and base64, or from the upstream program minisign, or were worked out by hand
 from a definition. A module has its test cases in `ROWS`, and the files that they name in `FILES`. These files are
@@ -22,6 +22,7 @@ import tempfile
 HERE = os.path.dirname(os.path.realpath(__file__))
 sys.path.append(os.path.join(HERE, "..", "shared"))
 
+import case_selection
 import named_errors
 from checks import Checks
 from request_format import encode_word, rejected
@@ -55,10 +56,15 @@ def difference(answer, line):
     return "; ".join(differences)
 
 
-def main(names):
+def main():
     checks = Checks()
+    try:
+        names = case_selection.selected(MODULES)
+    except case_selection.UnknownWord as error:
+        checks.check(False, error)
+        return checks.end()
     named_errors.compare(checks)
-    for name in names or MODULES:
+    for name in names:
         with tempfile.TemporaryDirectory(prefix="minisign-rows-") as directory:
             module = importlib.import_module(name)
             make_files(directory, getattr(module, "FILES", {}))
@@ -70,4 +76,4 @@ def main(names):
 
 
 if __name__ == "__main__":
-    sys.exit(main(sys.argv[1:]))
+    sys.exit(main())
