@@ -97,7 +97,8 @@ type SignedList struct {
 // VerifyList verifies the signature of a list. text is the whole list. Its lines are checked when you use it.
 //
 // VerifyList returns the errors of NewVerifier, ErrSignatureRefused, ErrCommentSignatureRefused, or ErrOtherList if the
-// trusted comment does not name the list. Legacy signatures are always rejected with ErrLegacyNotAccepted.
+// trusted comment does not name the list. Legacy signatures are always rejected with ErrLegacyNotAccepted. It returns
+// ErrBadHash if options.LongDigest is not one of the three constants.
 func (publicKey *PublicKey) VerifyList(text []byte, signature Signature, options ListOptions) (*SignedList, error) {
 	if publicKey == nil {
 		return nil, errors.New("minisign: publicKey is nil")

@@ -64,17 +64,21 @@ func (signature *Signature) Encode() string {
 }
 
 // NewPublicKey parses the 56 base64 characters of a public key, which are the second line of its file and the argument
-// of minisign -P.
+// of minisign -P. It returns ErrNotUtf8, ErrBarePublicKeyLength, ErrBarePublicKeyNotBase64 or ErrRecordTooShort if they are
+// malformed.
 func NewPublicKey(publicKeyStr string) (PublicKey, error) {
 	return readPublicKey(publicKeyStr, true)
 }
 
-// DecodePublicKey parses the content of a public key file, such as minisign.pub: both lines.
+// DecodePublicKey parses the content of a public key file, such as minisign.pub: both lines. It returns ErrNotUtf8,
+// ErrMissingPublicKeyComment, ErrMissingPublicKey, ErrPublicKeyLength, ErrPublicKeyNotBase64 or ErrRecordTooShort if the
+// content is malformed.
 func DecodePublicKey(in string) (PublicKey, error) {
 	return readPublicKey(in, false)
 }
 
-// NewPublicKeyFromFile reads a public key file, such as minisign.pub.
+// NewPublicKeyFromFile reads a public key file, such as minisign.pub. It returns the errors of os.ReadFile and of
+// DecodePublicKey.
 func NewPublicKeyFromFile(file string) (PublicKey, error) {
 	text, err := os.ReadFile(file)
 	if err != nil {
@@ -84,6 +88,10 @@ func NewPublicKeyFromFile(file string) (PublicKey, error) {
 }
 
 // DecodeSignature parses the content of a signature file, such as data.minisig: four lines. It verifies nothing.
+//
+// If the content is malformed, it returns ErrNotUtf8, ErrMissingUntrustedComment, ErrMissingSignature,
+// ErrMissingTrustedComment, ErrMissingCommentSignature, ErrUntrustedCommentPrefix, ErrSignatureNotBase64,
+// ErrRecordTooShort, ErrTrustedCommentPrefix or ErrUnsupportedAlgorithm.
 func DecodeSignature(in string) (Signature, error) {
 	parsed, err := parseSignature(in)
 	if err != nil {
@@ -92,7 +100,8 @@ func DecodeSignature(in string) (Signature, error) {
 	return parsed.signature(), nil
 }
 
-// NewSignatureFromFile reads a signature file, such as data.minisig. It verifies nothing.
+// NewSignatureFromFile reads a signature file, such as data.minisig. It verifies nothing. It returns the errors of
+// os.ReadFile and of DecodeSignature.
 func NewSignatureFromFile(file string) (Signature, error) {
 	text, err := os.ReadFile(file)
 	if err != nil {
@@ -101,9 +110,9 @@ func NewSignatureFromFile(file string) (Signature, error) {
 	return DecodeSignature(string(text))
 }
 
-// Verify returns true if the signature is valid for the data, and otherwise false and the reason: the errors of
-// NewVerifier, ErrSignatureRefused or ErrCommentSignatureRefused. It also accepts legacy signatures, which sign the data
-// itself, as Minisign made them before version 0.10.
+// Verify returns true if the signature is valid for the data, and otherwise false and the reason: one of the errors of
+// NewVerifier except ErrLegacyNotAccepted, or ErrSignatureRefused or ErrCommentSignatureRefused. It also accepts legacy
+// signatures, which sign the data itself, as Minisign made them before version 0.10.
 func (publicKey *PublicKey) Verify(bin []byte, signature Signature) (bool, error) {
 	verifier, err := begin(publicKey, signature, true)
 	if err == nil {

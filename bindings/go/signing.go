@@ -53,6 +53,13 @@ func GenerateKey() (*SecretKey, error) {
 
 // DecodeSecretKey decrypts the content of a secret key file, such as minisign.key: both lines. Pass nil as the password of
 // a key that is not encrypted.
+//
+// If the content is malformed, it returns ErrNotUtf8, ErrMissingSecretKeyComment, ErrMissingSecretKey,
+// ErrSecretKeyNotBase64 or ErrRecordTooShort. Without a password, it returns ErrKeySealed if the key is encrypted, and
+// ErrKeyCorrupted if the checksum of the key does not match. With a password, it returns ErrNotUtf8 if the password is not
+// UTF-8; ErrKeyNotSealed if the key is not encrypted; ErrUnsupportedKeyDerivation, ErrParametersTooHigh or
+// ErrInvalidParameters if its key derivation or its limits are not supported; ErrWorkTooHigh if scrypt would compute more
+// than work.MostRows rows; ErrOutOfMemory; and ErrWrongPassword.
 func DecodeSecretKey(in, password []byte, work Work) (*SecretKey, error) {
 	key, isWeak, err := openSecretKey(in, password, work)
 	if err != nil {
@@ -61,7 +68,8 @@ func DecodeSecretKey(in, password []byte, work Work) (*SecretKey, error) {
 	return &SecretKey{key, isWeak}, nil
 }
 
-// NewSecretKeyFromFile reads and decrypts a secret key file, such as minisign.key: see DecodeSecretKey.
+// NewSecretKeyFromFile reads and decrypts a secret key file, such as minisign.key. It returns the errors of os.ReadFile and
+// of DecodeSecretKey.
 func NewSecretKeyFromFile(file string, password []byte, work Work) (*SecretKey, error) {
 	text, err := os.ReadFile(file)
 	if err != nil {
@@ -78,9 +86,12 @@ func Wipe(secret []byte) {
 	}
 }
 
-// Encode returns the content of a secret key file for this key, encrypted with the password and a new salt. It returns an
-// error if the password is empty, and ErrWeakLimits if work has limits below the minimum of Minisign. Write the content to
-// a file with WriteNew.
+// Encode returns the content of a secret key file for this key, encrypted with the password and a new salt. Write the
+// content to a file with WriteNew.
+//
+// It returns an error if the password is empty; ErrWeakLimits if work has limits below the minimum of Minisign;
+// ErrKeyNotOpened after Clear; ErrNotUtf8 if the password is not UTF-8; ErrParametersTooHigh or ErrInvalidParameters if
+// scrypt does not allow the limits; and ErrOutOfMemory.
 func (key *SecretKey) Encode(password []byte, work Work) ([]byte, error) {
 	if len(password) == 0 {
 		return nil, errors.New("minisign: password is empty; use EncodeUnsealed for a key without a password")

@@ -197,10 +197,10 @@ impl SecretKey {
     ///
     /// # Errors
     ///
-    /// `Io` if a line is missing, the key is not encrypted, or the terminal cannot be used;
-    /// `Encoding` if the second line is not base64; `KDF` if the limits of the key are invalid or
-    /// above those of `minisign -G`; `Misc` if a typed password has more than 1,024 bytes, or there
-    /// is too little memory; `Verify` if the password is wrong.
+    /// `Io` if a line is missing, the key is not encrypted, its key derivation is not supported,
+    /// or the terminal cannot be used; `Encoding` if the second line is not base64; `KDF` if the
+    /// limits of the key are invalid or above those of `minisign -G`; `Misc` if a typed password
+    /// has more than 1,024 bytes, or there is too little memory; `Verify` if the password is wrong.
     pub fn from_box(sk_box: SecretKeyBox, password: Option<String>) -> Result<SecretKey> {
         let password = password.map(Zeroizing::new);
         let key = UnopenedKey::decode(&sk_box.0)?;

@@ -456,7 +456,8 @@ impl PublicKey {
     ///
     /// # Errors
     ///
-    /// `InvalidEncoding` with `BARE_PUBLIC_KEY_LENGTH` or `BARE_PUBLIC_KEY_NOT_BASE64`.
+    /// `InvalidEncoding` with `BARE_PUBLIC_KEY_LENGTH`, `BARE_PUBLIC_KEY_NOT_BASE64` or
+    /// `RECORD_TOO_SHORT`.
     ///
     /// # Examples
     ///

@@ -273,8 +273,8 @@ impl UnopenedKey {
     ///
     /// # Errors
     ///
-    /// `Rejected` with `MISSING_SECRET_KEY_COMMENT`, `MISSING_SECRET_KEY`, `SECRET_KEY_NOT_BASE64`
-    /// or `RECORD_TOO_SHORT`.
+    /// `Rejected` with `MISSING_SECRET_KEY_COMMENT`, `MISSING_SECRET_KEY` or
+    /// `SECRET_KEY_NOT_BASE64`; `InvalidEncoding` with `RECORD_TOO_SHORT`.
     pub fn decode(lines: &str) -> Result<Self, Error> {
         let key = raw::read_secret_key(lines.as_bytes())?;
         Ok(UnopenedKey { key })

@@ -197,7 +197,8 @@ impl SecretKey {
     /// # Errors
     ///
     /// With a password, `WeakLimits` if the limits in `work` are below the minimum, and `Rejected`
-    /// with `RANDOM_SOURCE_FAILED`, `EMPTY_PASSWORD` or `OUT_OF_MEMORY`.
+    /// with `RANDOM_SOURCE_FAILED`, `EMPTY_PASSWORD`, `PARAMETERS_TOO_HIGH`,
+    /// `INVALID_PARAMETERS` or `OUT_OF_MEMORY`.
     ///
     /// # Examples
     ///

@@ -422,6 +422,7 @@ class SecretKey(AbstractContextManager["SecretKey"]):
         - UnsupportedKeyDerivation, ParametersTooHigh or InvalidParameters if its key
           derivation or its limits are not supported;
         - WorkTooHigh if scrypt would compute more than `most_rows` rows;
+        - OutOfMemory if there is too little memory for scrypt;
         - WrongPassword.
         """
         password_bytes = old_password("password", password)
@@ -473,9 +474,10 @@ class SecretKey(AbstractContextManager["SecretKey"]):
         comment in the first line.
 
         Raises ValueError for an empty password, and for limits below the minimum of
-        minisign -G. Raises KeyNotOpened after `clear`; NotUtf8, BadComment or
-        UnreadableComment for a comment that Minisign could not read back;
-        ParametersTooHigh or InvalidParameters for limits that scrypt rejects.
+        minisign -G. Raises KeyNotOpened after `clear`; NotUtf8 for a password or a
+        comment that is not UTF-8; BadComment or UnreadableComment for a comment that
+        Minisign could not read back; ParametersTooHigh or InvalidParameters for limits
+        that scrypt rejects; OutOfMemory if there is too little memory for scrypt.
         """
         password_bytes = new_password("password", password)
         check_kind("low_memory", low_memory, bool)

@@ -435,17 +435,18 @@ def install(
     the data or the list cannot be opened, or if data that is not a regular file cannot
     be read.
 
-    Raises the errors of verifying; OtherFile, NoNumber, NoExpiry, BadExpiry, Expired,
-    BadSize, OtherSize, OlderUpdate; TargetInUse; NoRecord, DamagedRecord,
-    KeptByTimestamp, KeptByVersion; SameNumber; TooLong; ReadingFailed, WritingFailed,
-    RandomSourceFailed, OutOfMemory. With `list_path`, raises OtherList instead of
-    OtherFile if the trusted comment does not name the list. Also raises TooLong if the
-    list is larger than 1 MiB, NotUtf8 if it is not UTF-8, BadName if `name` is not one
-    that a list can contain, MalformedLine, NotListed, ListedTwice, and DigestMismatch
-    if the data has another digest. The `line` of MalformedLine and ListedTwice is the
-    number of the line. After each of these errors, and after an exception that
-    `progress` raises, the target is unchanged. If a system call has failed, the
-    `__cause__` of the error says which one.
+    Raises the errors that `Signature` lists for malformed content; DifferentKeyIds,
+    LegacyNotAccepted, SignatureRefused, CommentSignatureRefused; OtherFile, NoNumber,
+    NoExpiry, BadExpiry, Expired, BadSize, OtherSize, OlderUpdate; TargetInUse;
+    NoRecord, DamagedRecord, KeptByTimestamp, KeptByVersion; SameNumber; TooLong;
+    ReadingFailed, WritingFailed, RandomSourceFailed, OutOfMemory. With `list_path`,
+    raises OtherList instead of OtherFile if the trusted comment does not name the list.
+    Also raises TooLong if the list is larger than 1 MiB, NotUtf8 if it is not UTF-8,
+    BadName if `name` is not one that a list can contain, MalformedLine, NotListed,
+    ListedTwice, and DigestMismatch if the data has another digest. The `line` of
+    MalformedLine and ListedTwice is the number of the line. After each of these errors,
+    and after an exception that `progress` raises, the target is unchanged. If a system
+    call has failed, the `__cause__` of the error says which one.
 
     After DirectoryNotSynced the update is installed but not yet on disk: after a crash
     the old file may be back.
@@ -525,12 +526,14 @@ def check(
     comment of the update. If the update is older than the recorded version, the result
     is `Offer.OLDER`; no error is raised.
 
-    Raises the errors of `install` that do not depend on the data: those for a malformed
-    signature file and for a comment signature that is not valid; OtherFile, NoNumber,
-    NoExpiry, BadExpiry, Expired, BadSize; NoRecord, DamagedRecord, KeptByTimestamp,
-    KeptByVersion; SameNumber; with `list_path`, all errors of the list except
-    DigestMismatch; ReadingFailed, WritingFailed and OutOfMemory. The `__cause__` of the
-    last three says which system call failed, or why the target cannot be replaced.
+    Raises the errors of `install` that do not depend on the data: the errors that
+    `Signature` lists for malformed content; DifferentKeyIds, LegacyNotAccepted,
+    CommentSignatureRefused; OtherFile, NoNumber, NoExpiry, BadExpiry, Expired, BadSize;
+    NoRecord, DamagedRecord, KeptByTimestamp, KeptByVersion; SameNumber; with
+    `list_path`, SignatureRefused if the signature of the list is not valid, and the
+    errors that `install` lists for a list, except DigestMismatch; ReadingFailed,
+    WritingFailed and OutOfMemory. The `__cause__` of the last three says which system
+    call failed, or why the target cannot be replaced.
     """
     options = _options_struct(
         key,

@@ -286,7 +286,8 @@ def verify_listed(
     The signature is in the file `list_path`.minisig.
 
     This is `SignedList.from_file` and then `verify_listed_file`. For several files,
-    call `from_file` once. Raises the errors of both.
+    call `from_file` once. Raises the errors of `SignedList.from_file` and of
+    `SignedList.verify_listed_file`.
     """
     file, list_name = path_text("path", path), path_text("list_path", list_path)
     signed = SignedList.from_file(list_name, key, long_digest=long_digest)
