@@ -8,7 +8,8 @@ Errors. The comment of a call in a header, and so its manual page, must name exa
 the call allows. The script finds these errors by following the definitions in specs/ from the clauses of the export
 in minisign_c to the variants of the enums of errors. NEVER_RETURNED lists errors that are found in this way but
 that the call never returns, and NAMED_NOT_RETURNED lists errors that a comment names although the call does not return
-them. error_texts.c must have a message for each error. The documentation of the packages must list the same errors.
+them. error_texts.c must have a message for each error. The comments and docstrings in the packages must list the same
+errors (package_errors.py).
 
 Versions. "Since" is the version that last changed the declaration or the errors of a call. last_release.txt lists
 the calls of the last release. A call that is not in this list, or that differs from it, must be "Since" the version
@@ -19,7 +20,6 @@ The script prints a line for each failure; the last line is `N passed, M failed`
 Needs clang, which is installed if that is permitted.
 """
 
-import ast
 import functools
 import os
 import re
@@ -31,6 +31,7 @@ sys.path += [os.path.join(TOP, *each) for each in (("tests", "shared"), ("tools"
 
 import c_header
 import header
+import package_errors
 import sources
 import test_script
 from running import read
@@ -123,20 +124,6 @@ EVENTS = {
     "minisign_install_list": ("ListRead",),
     "minisign_install_answer": ("Answered", "SignatureRead", "ListRead"),
 }
-
-# The documentation in packages that lists the errors of these calls. It does not list API misuse, because the
-# packages make the calls in the right order, and it need not list OUT_OF_MEMORY.
-PYTHON, JAVASCRIPT = "bindings/python/src/minisign_proved/_keys.py", "bindings/javascript/index.d.ts"
-IN_PYTHON = {
-    "PublicKey.__init__": ("minisign_read_public_key",),
-    "PublicKey.from_base64": ("minisign_read_bare_public_key",),
-    "Signature": ("minisign_read_signature",),
-    "Verifier": ("minisign_ask", "minisign_read_signature"),
-    "SecretKey.from_bytes": ("minisign_read_secret_key", "minisign_open_sealed_key", "minisign_open_unsealed_key"),
-}
-IN_JAVASCRIPT = {"readSecretKey": IN_PYTHON["SecretKey.from_bytes"]}
-# A phrase in the JavaScript documentation that stands for all errors of a call, and the call.
-PHRASES = {"the errors that `Signature` lists": "minisign_read_signature"}
 
 
 @functools.lru_cache(maxsize=None)
@@ -254,34 +241,10 @@ def check_texts(checks, errors):
     )
 
 
-def check_packages(checks, errors):
+def check_packages(checks):
     """Checks that the packages document the errors that the calls return."""
-    in_c = {name.replace("_", "").lower(): name for name in errors}
-    misuses = {number.name for number in header.misuses()} | {"OUT_OF_MEMORY"}
-
-    def check_text(location, text, pattern, calls):
-        words = {word.replace("_", "").lower() for word in re.findall(pattern, text)}
-        documented = {in_c[word] for word in words if word in in_c}
-        documented = documented.union(*(returned_errors(call) for phrase, call in PHRASES.items() if phrase in text)) - misuses
-        expected = set().union(*map(returned_errors, calls)) - misuses
-        checks.check(
-            documented == expected,
-            f"{location} wrongly names {sorted(documented - expected)}, and does not name {sorted(expected - documented)}",
-        )
-
-    tree = ast.parse(read(TOP, PYTHON))
-    texts = {node.name: node for node in tree.body if isinstance(node, ast.ClassDef)}
-    texts |= {
-        f"{name}.{part.name}": part
-        for name, node in [*texts.items()]
-        for part in node.body
-        if isinstance(part, ast.FunctionDef)
-    }
-    for name, calls in IN_PYTHON.items():
-        check_text(f"{PYTHON}: {name}", " ".join(ast.get_docstring(texts[name]).split()), r"\b[A-Z][a-z]\w+", calls)
-    for name, calls in IN_JAVASCRIPT.items():
-        comment = read(TOP, JAVASCRIPT).decode().partition(f"export function {name}(")[0].rpartition("/**")[2]
-        check_text(f"{JAVASCRIPT}: {name}", comment, r"\b[A-Z][A-Z0-9_]+", calls)
+    numbers = {error.name: error.number for error in c_header.all_headers().errors}
+    package_errors.Packages(checks, numbers, returned_errors).check_all()
 
 
 # ---- Since ----
@@ -344,7 +307,7 @@ def run_all(checks, _):
     calls, errors, version = all_of_headers()
     check_lists(checks, calls, errors)
     check_texts(checks, errors)
-    check_packages(checks, errors)
+    check_packages(checks)
     check_since(checks, calls, errors, version)
 
 
