@@ -906,6 +906,16 @@ def check_one_layer(checks):
         )
 
 
+def case_names():
+    """Returns the names of all cases and mutants, and of the other checks (tests/shared/case_selection.py)."""
+    names_of_mutants = [mutant.name for mutant in mutants.mutants_of("c", "windows_mutants")]
+    return [*CASES, "mutants", *names_of_mutants, *(check.__name__ for check in OTHER_CHECKS)]
+
+
+# The checks that run after the cases.
+OTHER_CHECKS = (check_program, check_install, check_release)
+
+
 def run_all(checks, scratch):
     built = build(scratch)
     initialized_wine = InitializedWine(scratch)
@@ -917,7 +927,7 @@ def run_all(checks, scratch):
             check_mutants(checks, pool, programs, scratch)
             for name, result in zip(selected_names, results):
                 add_results(checks, name, result)
-            for check in (check_program, check_install, check_release):
+            for check in OTHER_CHECKS:
                 if case_selection.is_selected(check.__name__):
                     check(checks, programs, scratch)
             check_one_layer(checks)

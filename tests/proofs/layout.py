@@ -35,12 +35,8 @@ MAX_COLUMNS = 110
 CLAUSE_LINES, CLAUSE_CHARACTERS, FUNCTION_LINES = 3, 300, 50
 PARTS = ("src", "specs", "proofs")
 # The files that may have wider lines, and the reason.
-PRELUDE_IMPORT = "one import names everything that the file uses of the kit's module Prelude"
 WIDE_FILES = {
     "crates/minisign_sha2/proofs/Facts.antt": "each `unfolding` lists all definitions of a hash function in one line",
-    "crates/minisign_compare/src/devices.rt": PRELUDE_IMPORT + ", and one clause names all ghost members of a trait",
-    "crates/minisign_compare/src/replies.rt": PRELUDE_IMPORT,
-    "crates/installer_runs/src/main.rt": "the comment at the top describes each letter of an option in one line",
 }
 # The clauses that may be longer, by crate, function and name, and the reason.
 DEVICES = "it names each reader, writer and random source of the call, in its state before and after the call"
