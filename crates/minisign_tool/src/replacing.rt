@@ -1,8 +1,9 @@
 //! Replaces files in one step: even if the program is killed or the disk is full, the path leads to
 //! either the complete old file or the complete new one.
 
-ghost use Rattle.std.specs.Prelude.{◌≡◌, true, false, Ok, IfErr, IfOk, OnErr, OnOk, is_ok};
-ghost use Rattle.minisign_tool.specs.Replacing.{IsWriteFault};
+ghost use Rattle.std.specs.Prelude.{◌≡◌, ◌++◌, ℕ, List, Ok, IfErr, IfOk, IfSome, OnErr, OnOk, codes, false};
+ghost use Rattle.std.specs.Prelude.{is_ok, is_some, string_bytes, true};
+ghost use Rattle.minisign_tool.specs.Replacing.{IsBeside, IsTemporaryName, IsWriteFault, is_file};
 
 use crate::permissions::give_permissions;
 use minisign::base::devices::sinks::{WriterSink, put_and_flush};
@@ -174,7 +175,11 @@ fn put_both(
     public_file: &mut Option<TemporaryFile>,
     secret_file: &mut Option<TemporaryFile>,
 ) -> Result<()>
-    ensures { IfErr result IsWriteFault }
+    ensures public_installed { OnOk result (IfSome public_file.new (λ t. t.is_installed ≡ true)) }
+    ensures secret_installed { OnOk result (IfSome secret_file.new (λ t. t.is_installed ≡ true)) }
+    ensures kept { (is_some public_file.new ≡ is_some public_file.old)
+        × (is_some secret_file.new ≡ is_some secret_file.old) }
+    ensures refused { IfErr result IsWriteFault }
 {
     if public_file.is_none() {
         write_stream(rt, public)?;
@@ -188,8 +193,11 @@ fn put_both(
     sync(secret_file)
 }
 
+// Renames the temporary file to its target, if there is one.
 fn install(temporary: &mut Option<TemporaryFile>) -> Result<()>
-    ensures { IfErr result IsWriteFault }
+    ensures installed { OnOk result (IfSome temporary.new (λ t. t.is_installed ≡ true)) }
+    ensures kept { is_some temporary.new ≡ is_some temporary.old }
+    ensures refused { IfErr result IsWriteFault }
 {
     match temporary {
         Some(temporary) => temporary.install(),
@@ -197,6 +205,7 @@ fn install(temporary: &mut Option<TemporaryFile>) -> Result<()>
     }
 }
 
+// Syncs the directory of the temporary file, if there is one.
 fn sync(temporary: &Option<TemporaryFile>) -> Result<()>
     ensures { IfErr result IsWriteFault }
 {
@@ -299,7 +308,9 @@ fn make_temporary_file(
     place: Place,
     contents: Contents<'_>,
 ) -> Result<Option<TemporaryFile>>
-    ensures { IfErr result IsWriteFault }
+    ensures made { IfOk result (λ temporary. (is_some temporary ≡ is_file place)
+        × IfSome temporary (λ t. t.is_installed ≡ false)) }
+    ensures refused { IfErr result IsWriteFault }
 {
     let Place::File(place) = place else {
         return Ok(None);
@@ -327,13 +338,15 @@ fn make_temporary_file(
 
 // Creates a temporary file with a new name in the directory of a path.
 fn create_beside(rt: &HostRuntime, path: &str, mode: u32) -> Result<(File, String)>
-    ensures { IfErr result IsWriteFault }
+    ensures named { IfOk result (λ made. (name : List ℕ) × IsTemporaryName name
+        × IsBeside path.now name (string_bytes made.1)) }
+    ensures refused { IfErr result IsWriteFault }
 {
     let mut number = [0u8; 8];
     written(rt.fill_bytes(&mut number))?;
     let number = u64::from_le_bytes(number);
     for more in 0..MAX_NAMES {
-        let name = format!(in rt.alloc(); ".minisign_tool-{:016x}", number.wrapping_add(more))?;
+        let name = temporary_name(rt, number.wrapping_add(more))?;
         let temporary_path = path_beside(rt, path, &name)?;
         let made = OpenOptions::new()
             .write(true)
@@ -347,6 +360,15 @@ fn create_beside(rt: &HostRuntime, path: &str, mode: u32) -> Result<(File, Strin
         }
     }
     Err(NamedFault::WritingFailed.into())
+}
+
+// Returns the name of a temporary file.
+fn temporary_name(rt: &HostRuntime, number: u64) -> Result<String>
+    ensures named { IfOk result (λ name. IsTemporaryName (string_bytes name)) }
+    ensures refused { IfErr result IsWriteFault }
+{
+    let digits = format!(in rt.alloc(); "{number:016x}")?;
+    Ok(format!(in rt.alloc(); ".minisign_tool-{digits}")?)
 }
 
 // Writes directly to something that is not a regular file.
@@ -383,14 +405,21 @@ fn written<T>(answer: io::Result<T>) -> Result<T>
 
 // Returns a path that is relative to the directory of another path.
 fn path_beside(rt: &HostRuntime, path: &str, other: &str) -> Result<String>
-    ensures { IfErr result IsWriteFault }
+    ensures joined { IfOk result (λ joined. IsBeside path.now other.now (string_bytes joined)) }
+    ensures refused { IfErr result IsWriteFault }
 {
     match path.rsplit_once('/') {
-        Some((directory, _)) if !other.starts_with('/') => Ok(format!(in rt.alloc();
-            "{directory}/{other}"
-        )?),
+        Some((directory, _)) if !other.starts_with('/') => path_in(rt, directory, other),
         _ => Ok(String::from_str(rt.alloc(), other)?),
     }
+}
+
+// Joins a directory and a path.
+fn path_in(rt: &HostRuntime, directory: &str, path: &str) -> Result<String>
+    ensures joined { IfOk result (λ joined. string_bytes joined ≡ directory.now ++ codes "/" ++ path.now) }
+    ensures refused { IfErr result IsWriteFault }
+{
+    Ok(format!(in rt.alloc(); "{directory}/{path}")?)
 }
 
 // Returns the directory of a path.
