@@ -1,8 +1,8 @@
 //! The answer to a request: the result of the call, the bytes that it wrote, and the numbers of reads and of
 //! random bytes.
 
-ghost use Rattle.std.specs.Prelude.{◌≡◌, [], ◌++◌, Err, IfErr, IfOk, MatchOption, None, OnOk, Some};
-ghost use Rattle.std.specs.Prelude.{codes, false, if◌then◌else◌, string_bytes, true};
+ghost use Rattle.std.specs.Prelude.{◌≡◌, ℕ, List, [], ◌++◌, Err, IfErr, IfOk, MatchOption, None, OnErr, OnOk};
+ghost use Rattle.std.specs.Prelude.{Some, codes, false, if◌then◌else◌, string_bytes, true};
 ghost use Rattle.minisign_base.specs.Fault.{Named};
 ghost use Rattle.minisign_base.specs.declared.faults.NamedFault.TheVariants.{OutOfMemory};
 ghost use Rattle.minisign_compare.specs.Fields.{begun, first_of, is_incomplete, with_bytes, with_number};
@@ -90,10 +90,12 @@ impl Fields {
         }
     }
 
-    // Writes a field, unless an allocation fails.
+    // Writes a field. If an allocation fails, only a part of it is written.
     fn push(&mut self, name: &str, mark: &str, value: &str) -> Result<(), AllocError>
         ensures text { OnOk result (string_bytes self.new.text
             ≡ begun (string_bytes self.old.text) name.now ++ mark.now ++ value.now) }
+        ensures incomplete { OnErr result ((more : List ℕ)
+            × (string_bytes self.new.text ≡ string_bytes self.old.text ++ more)) }
         ensures kept { self.new.is_short ≡ self.old.is_short }
     {
         if !self.text.is_empty() {
