@@ -401,8 +401,8 @@ def is_accepted(label):
 
 def as_accepted(verdict):
     """Returns the verdict on a mutant that ACCEPTED_LIST accepts. If its contract rejects it, it must not be listed there, but a
-    pattern may match it."""
-    if verdict.outcome in GOOD and verdict.body.label not in accepted()[0]:
+    pattern may match it. A mutant that does not compile, or that could not be tried, is a failure even if it is listed."""
+    if verdict.outcome in (UNFIT, FAILED) or verdict.outcome in GOOD and verdict.body.label not in accepted()[0]:
         return verdict
     if verdict.outcome in GOOD:
         return Verdict(verdict.body, FAILED, f"{verdict.outcome}, but it is listed in {ACCEPTED_LIST}")
