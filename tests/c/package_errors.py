@@ -18,10 +18,10 @@ import header
 from running import read
 from sources import ROOT
 
-# What a comment must say. `calls` are the calls that the code makes, without minisign_. `also` are further errors or kinds of
-# errors that it must name: those of the package itself, and the misuse that users can cause. An error in `also` that a call
-# returns too must be named twice, because it has two reasons. `without` are errors of the calls that the comment must not name,
-# because the code cannot get them. It must refer to the errors of each function in `refers`.
+# The errors that a comment must name. `calls` are the calls that the code makes, without minisign_. `also` are further errors or
+# kinds of errors: those of the package itself, and the misuse that users can cause. An error in `also` that a call returns too
+# must be named twice, because it has two reasons. `without` are errors of the calls that the comment must not name, because the
+# code cannot get them. The comment must refer to the errors of each function in `refers`.
 Entry = namedtuple("Entry", "calls also without refers", defaults=("", "", "", ""))
 
 # Calls that derive a key from a password.

@@ -1,4 +1,4 @@
--- What a schedule of failures says about the next call of a device.
+-- Schedules of failures: which call of a device fails, and the schedule after each call.
 use Rattle.std.specs.Prelude.{ℕ, ◌-◌, Bool, true, false, cond, ltb, Option, Some, None}
 use Rattle.minisign_fixtures.specs.declared.devices.turn.Turn.{Turn}
 
